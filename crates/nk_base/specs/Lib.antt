@@ -1,0 +1,5 @@
+pub mod Byte
+pub mod Hexadecimal
+pub mod Number
+pub mod Sample
+pub mod Text

@@ -1,0 +1,17 @@
+//! Numbers of a fixed width, bits, texts, and want of memory: what every other crate speaks of.
+#![tactic(auto)]
+
+pub mod byte;
+mod decimal;
+mod hexadecimal;
+mod memory;
+mod number;
+#[cfg(test)]
+mod tests;
+mod text;
+
+pub use decimal::{dec, dec_into, number_of_digits};
+pub use hexadecimal::push_hexadecimal;
+pub use memory::Memory;
+pub use number::{Bits, Ty, wrap, wrapped_is_congruent};
+pub use text::Text;
