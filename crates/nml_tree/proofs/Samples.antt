@@ -1,0 +1,79 @@
+-- The sample machine's texts with numbers in them, that it is plain, and a spelling that it doesn't have.
+use Rattle.std.proofs.Common.{◌≡◌, refl, ap, ◌∙◌, ℕ, List, negsuc, [], ◌∷◌, codes, lit<, lit≤, arith, AllPairs, length, inl, inr}
+use Rattle.std.proofs.lemmas.Fmt.{decimal-digits_of}
+use Rattle.std.proofs.lemmas.List.Elements.{All-from_recursion}
+use Rattle.std.proofs.lemmas.List.Kept.{AllPairs-cons}
+use Rattle.std.specs.Fmt.{decimal}
+use Rattle.std.specs.List.{IsDistinct, AllByRecursion}
+use Rattle.nml_tree.specs.Attribute.{syntax_of}
+use Rattle.nml_tree.specs.IsPlain.{IsPlain, IsRule, AreApart}
+use Rattle.nml_tree.specs.LineToken.{Word, Number, line_tokens}
+use Rattle.nml_tree.specs.SampleMachine.{ldi, outa, hlt, machine}
+use Rattle.nml_tree.specs.Spelling.{IsTextSpelling}
+use Rattle.nml_tree.specs.Token.{Quoted}
+
+-- the library's decimal text doesn't compute, but its digits do
+five : decimal 5 ≡ codes "5"
+five = decimal-digits_of 5 (lit< tt) (lit< tt) ∙ refl
+
+pub syntax_minus : syntax_of ldi (negsuc 4 ∷ []) ≡ codes "ldi -5"
+syntax_minus = rw five refl
+
+pub tokens_minus : line_tokens (syntax_of ldi (negsuc 4 ∷ [])) ≡ Word (codes "ldi") ∷ Number (negsuc 4) ∷ []
+tokens_minus = rw five refl
+
+-- one text more that is apart from each
+apart_more : (a : List ℕ) (others : List (List ℕ)) → AllByRecursion (AreApart a) others → AllPairs AreApart others → AllPairs AreApart (a ∷ others)
+apart_more a others first rest = AllPairs-cons AreApart a others (All-from_recursion (AreApart a) others first) rest
+
+texts_apart : AllPairs AreApart (codes "01" ∷ codes "1000000000" ∷ codes "00000000" ∷ [])
+texts_apart =
+    apart_more (codes "01") (codes "1000000000" ∷ codes "00000000" ∷ []) ((refl, refl), ((refl, refl), tt))
+    (apart_more (codes "1000000000") (codes "00000000" ∷ []) ((refl, refl), tt) (λ i j d lt within. absurd (omega arith)))
+
+is_ldi : IsRule ldi
+unfolding IsDistinct
+is_ldi = record {
+  name_is = refl;
+  fields_are = (record { name_is = refl; ty_is = (lit≤ tt, lit≤ tt) }, tt);
+  fields_differ = (tt, tt);
+  syntax_is = record { parts_are = refl; first_is = refl; one_each = refl };
+  image_is = refl;
+}
+
+is_outa : IsRule outa
+unfolding IsDistinct
+is_outa = record {
+  name_is = refl;
+  fields_are = tt;
+  fields_differ = tt;
+  syntax_is = record { parts_are = refl; first_is = refl; one_each = refl };
+  image_is = refl;
+}
+
+is_hlt : IsRule hlt
+unfolding IsDistinct
+is_hlt = record {
+  name_is = refl;
+  fields_are = (record { name_is = refl; ty_is = (lit≤ tt, lit≤ tt) }, tt);
+  fields_differ = (tt, tt);
+  syntax_is = record { parts_are = refl; first_is = refl; one_each = refl };
+  image_is = refl;
+}
+
+pub plain_machine : IsPlain machine
+unfolding IsDistinct
+plain_machine = record {
+  rules_are = (is_ldi, (is_outa, (is_hlt, tt)));
+  names_differ = ((refl, (refl, (refl, tt))), ((refl, (refl, tt)), ((refl, tt), (tt, tt))));
+  first_parts_differ = ((refl, (refl, tt)), ((refl, tt), (tt, tt)));
+  one_width = (refl, (refl, (refl, tt)));
+  wide = lit≤ tt;
+  narrow = lit≤ tt;
+  leading_apart = texts_apart;
+}
+
+-- a rule with a field isn't spelled with a string alone
+pub string_with_field : (text : List ℕ) → IsTextSpelling hlt.fields text (Quoted text ∷ []) → ⊥
+string_with_field text (inl e) = absurd (omega (arith, ap length e))
+string_with_field text (inr h) = absurd (omega (arith, ap length h.0))

@@ -1,0 +1,48 @@
+-- Words for the private contracts of the check.
+use Rattle.std.specs.Prelude.{◌≡◌, ℕ, ◌+◌, ◌<◌, ◌≤◌, length, take, Bool, false, List, [], map, Option, None, Some, IsTrue}
+use Rattle.std.specs.Borrow.{Bor}
+use Rattle.std.specs.Char.{is_ascii_digit}
+use Rattle.std.specs.List.{list_all, list_any, AllByRecursion}
+use Rattle.nk_base.specs.Text.{text_eq}
+use Rattle.nml_tree.specs.Attribute as attribute
+use Rattle.nml_tree.specs.Attribute.{parts}
+use Rattle.nml_tree.specs.Description.{Rule, field_of}
+use Rattle.nml_tree.specs.IsPlain.{is_image, image_width, word_width}
+use Rattle.nml_tree.specs.declared.image.Piece.{Piece}
+use Rattle.nml_tree.specs.declared.image.Piece.TheVariants as lent
+use Rattle.nml_tree.specs.declared.rules.PlainField.{PlainField}
+
+-- the parts of what stands behind a blank, if there is one
+abbrev pub parts_behind : Option (Bor (List ℕ)) → List (List ℕ)
+parts_behind None = []
+parts_behind (Some rest) = parts rest.now
+
+-- its length and one more, or 0 where there is nothing
+abbrev pub length_left : Option (Bor (List ℕ)) → ℕ
+length_left None = 0
+length_left (Some rest) = length rest.now + 1
+
+-- a piece without where it lies in memory
+abbrev pub seen_piece : Piece → attribute.Piece
+seen_piece (lent.Letter c) = attribute.Letter c
+seen_piece (lent.Directive digits letter) = attribute.Directive digits.now letter
+
+-- the digits of a directive are digits
+abbrev pub HasDigits : Piece → Type 0
+HasDigits (lent.Letter c) = Unit {0}
+HasDigits (lent.Directive digits letter) = IsTrue (list_all is_ascii_digit digits.now)
+
+-- whether the other pieces make an image for the fields that are left
+abbrev pub is_image_left : List attribute.Piece → Option (Bor (List PlainField)) → Bool
+is_image_left ps None = false
+is_image_left ps (Some left) = is_image ps (map field_of left.now)
+
+-- what the text begins with, short of the whole, is none of the keys
+abbrev pub LacksFronts : List (List ℕ) → List ℕ → Type 0
+LacksFronts keys text = (n : ℕ) → n < length text → list_any (text_eq (take n text)) keys ≡ false
+
+-- the images have one width, of 8 to 64 bits
+pub record HasOneWidth (rules : List Rule) : Type 0 where
+  pub one : AllByRecursion (λ r. image_width r ≡ word_width rules) rules
+  pub wide : 8 ≤ word_width rules
+  pub narrow : word_width rules ≤ 64

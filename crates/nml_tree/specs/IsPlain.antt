@@ -1,0 +1,107 @@
+-- What a plain description is, besides its spelling.
+use Rattle.std.specs.Prelude.{◌≡◌, ◌≤◌, ℕ, ◌+◌, nat_lt, ◌&&◌, ◌||◌, ◌==◌, Bool, true, false, List, [], ◌∷◌, length, map, codes, IsTrue, IsFalse, AllPairs}
+use Rattle.std.specs.Char.{is_ascii_alphabetic}
+use Rattle.std.specs.List.{list_any, list_all, starts_with, IsDistinct, count_by, AllByRecursion}
+use Rattle.std.specs.Prelude.{nat_eq}
+use Rattle.std.specs.Str.Parse.{digits_value}
+use Rattle.nk_base.specs.Text.{text_eq}
+use Rattle.nk_base.specs.Number.{IsWidth, width_of}
+use Rattle.nk_base.specs.declared.number.Ty.{Ty}
+use Rattle.nk_base.specs.declared.number.Ty.TheVariants as ty
+use Rattle.nml_tree.specs.Description.{Field, Rule, Description}
+use Rattle.nml_tree.specs.Attribute.{Piece, Letter, Directive, pieces, parts, directive}
+
+-- the keywords of a description; none is a name
+abbrev pub keywords : List (List ℕ)
+keywords =
+    codes "let" ∷ codes "type" ∷ codes "mem" ∷ codes "reg" ∷ codes "trn" ∷ codes "inp" ∷ codes "out" ∷ codes "op"
+    ∷ codes "opn" ∷ codes "mode" ∷ codes "syntax" ∷ codes "image" ∷ codes "action" ∷ codes "format" ∷ codes "if" ∷ codes "then"
+    ∷ codes "else" ∷ codes "endif" ∷ codes "bool" ∷ codes "card" ∷ codes "int" ∷ codes "fix" ∷ codes "float" ∷ codes "sat"
+    ∷ codes "bits" ∷ codes "halt" ∷ codes "true" ∷ codes "false" ∷ []
+
+abbrev pub is_keyword : List ℕ → Bool
+is_keyword word = list_any (text_eq word) keywords
+
+-- a field takes `card(n)` or `int(n)`, n from 1 to 64
+abbrev pub IsFieldTy : Ty → Type 0
+IsFieldTy ty.Bool = ⊥
+IsFieldTy (ty.Card n) = IsWidth n
+IsFieldTy (ty.Int n) = IsWidth n
+
+pub record IsField (f : Field) : Type 0 where
+  pub name_is : IsFalse (is_keyword f.name)
+  pub ty_is : IsFieldTy f.ty
+
+-- one letter or more, and nothing else
+abbrev pub is_run_of_letters : List ℕ → Bool
+is_run_of_letters part = nat_lt 0 (length part) && list_all is_ascii_alphabetic part
+
+abbrev pub is_part : List ℕ → Bool
+is_part part = text_eq part directive || is_run_of_letters part
+
+abbrev pub first_of : List (List ℕ) → List ℕ
+first_of [] = []
+first_of (p ∷ ps) = p
+
+-- the first part of a rule's syntax
+abbrev pub first_part : Rule → List ℕ
+first_part r = first_of (parts r.syntax)
+
+-- The parts are runs of letters and `%d`, the first is a run of letters, and there is one `%d` for each field.
+pub record IsSyntax (r : Rule) : Type 0 where
+  pub parts_are : IsTrue (list_all is_part (parts r.syntax))
+  pub first_is : IsTrue (is_run_of_letters (first_part r))
+  pub one_each : count_by (λ p. text_eq p directive) (parts r.syntax) ≡ length r.fields
+
+-- The characters are 0 and 1, and the directives are `%nb`, one for each field in order, n being its width.
+abbrev pub is_image : List Piece → List Field → Bool
+is_image [] [] = true
+is_image [] (f ∷ fs) = false
+is_image (Letter c ∷ ps) fs = ((c == 48) || (c == 49)) && is_image ps fs
+is_image (Directive digits k ∷ ps) [] = false
+is_image (Directive digits k ∷ ps) (f ∷ fs) =
+    (k == 98) && nat_lt 0 (length digits) && (digits_value 10 digits == width_of f.ty) && is_image ps fs
+
+-- how many bits an image has: one for each character, and those of each directive
+abbrev pub bits_in : List Piece → ℕ
+bits_in [] = 0
+bits_in (Letter c ∷ ps) = 1 + bits_in ps
+bits_in (Directive digits k ∷ ps) = digits_value 10 digits + bits_in ps
+
+abbrev pub image_width : Rule → ℕ
+image_width r = bits_in (pieces r.image)
+
+-- the characters before the first directive
+abbrev pub characters_before : List Piece → List ℕ
+characters_before [] = []
+characters_before (Letter c ∷ ps) = c ∷ characters_before ps
+characters_before (Directive digits k ∷ ps) = []
+
+abbrev pub leading_digits : Rule → List ℕ
+leading_digits r = characters_before (pieces r.image)
+
+-- an and-rule that a plain description may have
+pub record IsRule (r : Rule) : Type 0 where
+  pub name_is : IsFalse (is_keyword r.name)
+  pub fields_are : AllByRecursion IsField r.fields
+  pub fields_differ : IsDistinct text_eq (map (λ f. f.name) r.fields)
+  pub syntax_is : IsSyntax r
+  pub image_is : IsTrue (is_image (pieces r.image) r.fields)
+
+-- the width of a word: that of the first rule's image
+abbrev pub word_width : List Rule → ℕ
+word_width [] = 0
+word_width (r ∷ rs) = image_width r
+
+-- neither begins the other
+abbrev pub AreApart : List ℕ → List ℕ → Type 0
+AreApart a b = IsFalse (starts_with nat_eq a b) × IsFalse (starts_with nat_eq b a)
+
+pub record IsPlain (d : Description) : Type 0 where
+  pub rules_are : AllByRecursion IsRule d.rules
+  pub names_differ : IsDistinct text_eq (codes "instruction" ∷ map (λ r. r.name) d.rules)
+  pub first_parts_differ : IsDistinct text_eq (map first_part d.rules)
+  pub one_width : AllByRecursion (λ r. image_width r ≡ word_width d.rules) d.rules
+  pub wide : 8 ≤ word_width d.rules
+  pub narrow : word_width d.rules ≤ 64
+  pub leading_apart : AllPairs AreApart (map leading_digits d.rules)

@@ -1,0 +1,13 @@
+pub mod Token
+pub mod Description
+pub mod Spelling
+pub mod Attribute
+pub mod IsPlain
+pub mod LineToken
+pub mod Instruction
+pub mod Seen
+pub mod ReadAs
+pub mod SampleTokens
+pub mod SampleMachine
+pub mod Reading
+pub mod Checked
