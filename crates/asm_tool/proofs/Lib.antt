@@ -1,0 +1,10 @@
+pub mod PlainTexts
+pub mod LineTokens
+pub mod Lines
+pub mod Determined
+pub mod SyntaxTokens
+pub mod Instructions
+pub mod ImageWord
+pub mod MatchSteps
+pub mod FirstParts
+pub mod Lookup

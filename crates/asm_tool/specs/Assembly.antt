@@ -1,0 +1,32 @@
+-- What a plain text is assembled to.
+use Rattle.std.specs.Prelude.{◌≡◌, ◌≢◌, ◌⊎◌, ℕ, ◌+◌, List, [], ◌∷◌, ◌++◌, take, slice_get, Some}
+use Rattle.nml_tree.specs.Description.{Description}
+use Rattle.nml_tree.specs.LineToken.{line_tokens}
+use Rattle.nml_tree.specs.Instruction.{IsInstruction}
+
+-- a line without a token gives no word; any other gives the word of the instruction with its tokens
+abbrev pub GivesWords : Description → List ℕ → List ℕ → Type 0
+GivesWords d line words =
+    ((line_tokens line ≡ []) × (words ≡ []))
+    ⊎ ((word : ℕ) × (line_tokens line ≢ []) × IsInstruction d (line_tokens line) word × (words ≡ word ∷ []))
+
+-- the words of the lines, one after the other
+abbrev pub Assembles : Description → List (List ℕ) → List ℕ → Type 0
+Assembles d [] words = words ≡ []
+Assembles d (line ∷ more) words =
+    (front : List ℕ) × (rest : List ℕ) × (words ≡ front ++ rest) × GivesWords d line front × Assembles d more rest
+
+-- no instruction has the line's tokens, and there are some
+pub record HasNoMatch (d : Description) (line : List ℕ) : Type 0 where
+  pub tokens : line_tokens line ≢ []
+  pub none : (word : ℕ) → IsInstruction d (line_tokens line) word → ⊥
+
+-- the first line without a match, counted from 1
+pub record FailsAt (d : Description) (ls : List (List ℕ)) (number : ℕ) : Type 0 where
+  pub before : ℕ
+  pub is : number ≡ before + 1
+  pub words : List ℕ
+  pub assembled : Assembles d (take before ls) words
+  pub line : List ℕ
+  pub stands : slice_get ls before ≡ Some line
+  pub fails : HasNoMatch d line

@@ -1,0 +1,15 @@
+//! Assembles plain texts by a plain description: one word for each line that has a token.
+#![tactic(auto)]
+
+mod image;
+mod laws;
+mod line;
+mod matching;
+mod plain;
+mod rules;
+#[cfg(test)]
+mod tests;
+mod text;
+
+pub use laws::{one_answer, one_word};
+pub use plain::{PlainFault, plain_words};

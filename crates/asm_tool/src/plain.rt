@@ -1,0 +1,134 @@
+//! The assembly of plain texts, line by line.
+
+ghost use Rattle.std.specs.Prelude.{◌≡◌, ◌≤◌, length, map, IfOk, IsTrue, MatchBool};
+ghost use Rattle.std.specs.List.{prefix_len};
+ghost use Rattle.asm_tool.specs.Answer.{IsAnswer};
+ghost use Rattle.asm_tool.specs.Assembly.{HasNoMatch};
+ghost use Rattle.asm_tool.specs.FirstLine.{is_no_feed, IsFirstLine, Appends};
+ghost use Rattle.asm_tool.specs.PlainText.{is_plain_line};
+ghost use Rattle.nml_tree.specs.Description.{description_of};
+ghost use Rattle.nml_tree.specs.IsPlain.{IsPlain, first_part};
+
+use crate::line::tokens_of;
+use crate::rules::{first_parts, word_of};
+use crate::text::is_plain_text;
+use indexmap::IndexSet;
+use nk_base::{Memory, Text};
+use nml_tree::Plain;
+use std::alloc::{AllocError, AllocFailed, Global};
+
+/// Why a plain text isn't assembled.
+#[derive(Clone, Copy, Debug, PartialEq, Eq)]
+pub enum PlainFault {
+    /// The text isn't plain.
+    NotBuilt,
+    /// No instruction has the tokens of this line, counted from 1; all lines before it have their words.
+    NoMatch { line: u64 },
+    /// Want of memory.
+    Memory,
+}
+
+impl From<Memory> for PlainFault {
+    ghost use Rattle.std.specs.Prelude.{◌≡◌};
+    ghost use Rattle.asm_tool.specs.declared.plain.PlainFault.TheVariants.{Memory};
+
+    ghost from_gives = { λ _ fault. fault ≡ Memory };
+
+    fn from(_: Memory) -> PlainFault {
+        PlainFault::Memory
+    }
+}
+
+impl From<AllocError> for PlainFault {
+    ghost use Rattle.std.specs.Prelude.{◌≡◌};
+    ghost use Rattle.asm_tool.specs.declared.plain.PlainFault.TheVariants.{Memory};
+
+    ghost from_gives = { λ _ fault. fault ≡ Memory };
+
+    fn from(_: AllocError) -> PlainFault {
+        PlainFault::Memory
+    }
+}
+
+impl<T: Drop> From<AllocFailed<T>> for PlainFault {
+    ghost use Rattle.std.specs.Prelude.{◌≡◌};
+    ghost use Rattle.asm_tool.specs.declared.plain.PlainFault.TheVariants.{Memory};
+
+    ghost from_gives = { λ _ fault. fault ≡ Memory };
+
+    fn from(_: AllocFailed<T>) -> PlainFault {
+        PlainFault::Memory
+    }
+}
+
+/// The words of a plain text, in order: one for each line that has a token, that of the one instruction whose
+/// syntax has the line's tokens.
+///
+/// `NotBuilt` comes exactly where the text isn't plain, and `NoMatch` exactly where it is and a line fails, with the
+/// first such line. Want of memory may come at any growth. The rules are this project's own; docs/LANGUAGES.md states them.
+pub fn plain_words(alloc: Global, p: &Plain, text: &[u8]) -> Result<Vec<u128>, PlainFault>
+    requires plain { IsPlain (description_of p.now) }
+    ensures answer { IsAnswer (description_of p.now) text.now result }
+{
+    if !is_plain_text(text) {
+        return Err(PlainFault::NotBuilt);
+    }
+    let first = first_parts(alloc, p)?;
+    let mut words = Vec::new(alloc);
+    let mut number = 0u64;
+    let mut rest = Some(text);
+    while let Some(left) = rest {
+        let (line, more) = first_line(left);
+        number += 1;
+        if !push_word(alloc, p, &first, line, &mut words)? {
+            return Err(PlainFault::NoMatch { line: number });
+        }
+        rest = more;
+    }
+    Ok(words)
+}
+
+/// Appends the word of a plain line, where it has a token; `false` where no instruction has its tokens.
+fn push_word(
+    alloc: Global,
+    plain: &Plain,
+    first: &IndexSet<Text>,
+    line: &[u8],
+    words: &mut Vec<u128>,
+) -> Result<bool, Memory>
+    requires plain { IsPlain (description_of plain.now) }
+    requires first { first.now.keys ≡ map first_part (description_of plain.now).rules }
+    requires line { IsTrue (is_plain_line line.now) }
+    ensures { IfOk result (λ b. MatchBool b (Appends (description_of plain.now) line.now words.old.items words.new.items) (HasNoMatch (description_of plain.now) line.now)) }
+{
+    let tokens = tokens_of(alloc, line)?;
+    if tokens.is_empty() {
+        return Ok(true);
+    }
+    match word_of(alloc, plain, first, tokens.as_slice())? {
+        Some(word) => {
+            words.push(word)?;
+            Ok(true)
+        }
+        None => Ok(false),
+    }
+}
+
+/// The first line, and what stands behind its line feed, where it has one.
+fn first_line(text: &[u8]) -> (&[u8], Option<&[u8]>)
+    ensures { IsFirstLine text.now result.0.now result.1 }
+{
+    let (line, rest) = text.split_at(line_len(text));
+    match rest.split_first() {
+        Some((_, more)) => (line, Some(more)),
+        None => (line, None),
+    }
+}
+
+/// How many bytes stand before the first line feed.
+fn line_len(text: &[u8]) -> usize
+    ensures value { result ≡ prefix_len is_no_feed text.now }
+    ensures within { result ≤ length text.now }
+{
+    text.iter().take_while(|c| **c != b'\n').count()
+}
