@@ -1,0 +1,6 @@
+pub mod Causes
+pub mod Lines
+pub mod OneOutcome
+pub mod Settling
+pub mod Telling
+pub mod Words

@@ -1,0 +1,11 @@
+pub mod Form
+pub mod Seen
+pub mod Status
+pub mod Reading
+pub mod Outcome
+pub mod Told
+pub mod Answer
+pub mod Cause
+pub mod Refused
+pub mod Sample
+pub mod Ended

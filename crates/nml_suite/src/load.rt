@@ -1,0 +1,25 @@
+ghost use Rattle.nml_suite.specs.Reading.{LeavesFiles};
+ghost use Rattle.nml_suite.specs.Refused.{IsLoaded};
+
+use crate::refusal::Refusal;
+use nk_base::Text;
+use nk_outside::{Files, ReadFault};
+use std::alloc::Global;
+
+/// Reads a file, or refuses it by its name.
+pub fn load<'a, F: Files>(
+    alloc: Global,
+    files: &mut F,
+    name: &'a Text,
+) -> Result<Vec<u8>, Refusal<'a>>
+    ensures loaded { IsLoaded (F.held files.old) (F.counts files.old) (F.counts files.new) name.now result }
+    ensures files { LeavesFiles (F.held files.old) (F.held files.new) (F.counts files.old) (F.counts files.new) 1 }
+{
+    match files.read(alloc, name) {
+        Ok(bytes) => Ok(bytes),
+        Err(ReadFault::Memory) => Err(Refusal::Memory),
+        Err(ReadFault::Absent) => Err(Refusal::Absent(name)),
+        Err(ReadFault::Failed) => Err(Refusal::Failed(name)),
+        Err(ReadFault::TooLong) => Err(Refusal::TooLong(name)),
+    }
+}

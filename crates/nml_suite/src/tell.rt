@@ -1,0 +1,123 @@
+ghost use Rattle.std.specs.Prelude.{◌≡◌, ◌++◌, IfOk, OnOk, OnErr, IsErrOf};
+ghost use Rattle.nk_outside.specs.Count.{HasCause};
+ghost use Rattle.nk_outside.specs.Taken.{Took, TookFront};
+ghost use Rattle.nml_suite.specs.Ended.{Ends};
+ghost use Rattle.nml_suite.specs.Outcome as spec;
+ghost use Rattle.nml_suite.specs.Refused.{refused};
+ghost use Rattle.nml_suite.specs.Told.{Told};
+
+use crate::Status;
+use crate::assemble::Assembled;
+use crate::refusal::Refusal;
+use nk_base::{Memory, Text, dec, push_hexadecimal};
+use nk_outside::{Sink, WriteFault};
+use std::alloc::Global;
+
+/// Puts one line, and answers the status that comes of it.
+pub fn tell<S: Sink>(alloc: Global, sink: &mut S, line: &[u8], status: Status) -> Status
+    ensures { Told (spec.outcome status line.now) (S.taken sink.old) (S.taken sink.new) (S.faults sink.old) (S.faults sink.new) result }
+{
+    let put = sink.put(alloc, line);
+    ended(alloc, sink, put, status)
+}
+
+/// Puts the line of a refusal.
+pub fn tell_refusal<S: Sink>(alloc: Global, sink: &mut S, refusal: &Refusal<'_>) -> Status
+    ensures { Told (refused refusal.now) (S.taken sink.old) (S.taken sink.new) (S.faults sink.old) (S.faults sink.new) result }
+{
+    let put = put_refusal(alloc, sink, refusal);
+    ended(alloc, sink, put, refusal.status())
+}
+
+/// Puts the words, a line each, and how many there are.
+pub fn tell_assembled<S: Sink>(alloc: Global, sink: &mut S, made: &Assembled) -> Status
+    ensures { Told (spec.assembled made.now.width made.now.words.items) (S.taken sink.old) (S.taken sink.new) (S.faults sink.old) (S.faults sink.new) result }
+{
+    let put = put_assembled(alloc, sink, made.width, &made.words);
+    ended(alloc, sink, put, Status::Done)
+}
+
+/// The status after the last put; where memory was wanted, the line `memory` is put first.
+fn ended<S: Sink>(alloc: Global, sink: &mut S, put: Result<(), WriteFault>, done: Status) -> Status
+    ensures { Ends put done (S.taken sink.old) (S.taken sink.new) (S.faults sink.old) (S.faults sink.new) result }
+{
+    match put {
+        Ok(()) => done,
+        Err(WriteFault::Failed) => Status::Write,
+        Err(WriteFault::Memory) => match sink.put(alloc, b"memory\n") {
+            Ok(()) | Err(WriteFault::Memory) => Status::Memory,
+            Err(WriteFault::Failed) => Status::Write,
+        },
+    }
+}
+
+/// Puts the line of a refusal; want of memory has no text of its own.
+fn put_refusal<S: Sink>(
+    alloc: Global,
+    sink: &mut S,
+    refusal: &Refusal<'_>,
+) -> Result<(), WriteFault>
+    ensures ok { OnOk result (Took (S.taken sink.old) (S.taken sink.new) (refused refusal.now).text) }
+    ensures err { OnErr result (TookFront (S.taken sink.old) (S.taken sink.new) (refused refusal.now).text) }
+    ensures failed { HasCause (S.faults sink.old) (S.faults sink.new) (IsErrOf result WriteFault.Failed) }
+{
+    if let Refusal::Memory = refusal {
+        return Err(WriteFault::Memory);
+    }
+    let line = refusal.line(alloc)?;
+    sink.put(alloc, line.as_bytes())
+}
+
+/// Puts the words, a line each, and how many there are.
+fn put_assembled<S: Sink>(
+    alloc: Global,
+    sink: &mut S,
+    width: u32,
+    words: &[u128],
+) -> Result<(), WriteFault>
+    ensures ok { OnOk result (Took (S.taken sink.old) (S.taken sink.new) (spec.assembled width words.now).text) }
+    ensures err { OnErr result (TookFront (S.taken sink.old) (S.taken sink.new) (spec.assembled width words.now).text) }
+    ensures failed { HasCause (S.faults sink.old) (S.faults sink.new) (IsErrOf result WriteFault.Failed) }
+{
+    put_words(alloc, sink, width, words)?;
+    let line = ok_line(alloc, words.len())?;
+    sink.put(alloc, line.as_bytes())
+}
+
+/// Puts the words, a line each.
+fn put_words<S: Sink>(
+    alloc: Global,
+    sink: &mut S,
+    width: u32,
+    words: &[u128],
+) -> Result<(), WriteFault>
+    ensures ok { OnOk result (Took (S.taken sink.old) (S.taken sink.new) (spec.word_lines width words.now)) }
+    ensures err { OnErr result (TookFront (S.taken sink.old) (S.taken sink.new) (spec.word_lines width words.now)) }
+    ensures failed { HasCause (S.faults sink.old) (S.faults sink.new) (IsErrOf result WriteFault.Failed) }
+{
+    for word in words {
+        let line = word_line(alloc, width, *word)?;
+        sink.put(alloc, line.as_bytes())?;
+    }
+    Ok(())
+}
+
+/// A word in hexadecimal, a line.
+fn word_line(alloc: Global, width: u32, word: u128) -> Result<Text, Memory>
+    ensures { IfOk result (λ t. t ≡ spec.word_line width word) }
+{
+    let mut line = Text::new(alloc);
+    push_hexadecimal(&mut line, ((u64::from(width) + 3) / 4) as u32, word)?;
+    line.push_bytes(b"\n")?;
+    Ok(line)
+}
+
+/// How many words there are, a line.
+fn ok_line(alloc: Global, count: usize) -> Result<Text, Memory>
+    ensures { IfOk result (λ t. t ≡ spec.ok_line count) }
+{
+    let mut line = Text::from_bytes(alloc, b"ok: ")?;
+    line.push_bytes(dec(alloc, count as i128)?.as_bytes())?;
+    line.push_bytes(b" words\n")?;
+    Ok(line)
+}
