@@ -1,0 +1,3 @@
+ldi 5
+outa
+hlt 0
