@@ -1,6 +1,7 @@
 pub mod PlainTexts
 pub mod LineTokens
 pub mod Lines
+pub mod LineCount
 pub mod Determined
 pub mod SyntaxTokens
 pub mod Instructions

@@ -75,11 +75,11 @@ digit_first c Nothing ts h = refl
 digit_first c (Letters w) ts h = refl
 digit_first c (Digits w) ts h = absurd h
 
-both : (P : Scan → Type 0) (b : Bool) (x y : Scan) → P x → P y → P (cond b x y)
+pub both : (P : Scan → Type 0) (b : Bool) (x y : Scan) → P x → P y → P (cond b x y)
 both P true x y p q = p
 both P false x y p q = q
 
-second : (P : Scan → Type 0) (b : Bool) (x y : Scan) → b ≡ false → P y → P (cond b x y)
+pub second : (P : Scan → Type 0) (b : Bool) (x y : Scan) → b ≡ false → P y → P (cond b x y)
 second P true x y e q = absurd (false≢true (sym e))
 second P false x y e q = q
 

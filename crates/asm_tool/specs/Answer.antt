@@ -2,16 +2,16 @@
 use Rattle.std.specs.Prelude.{◌≡◌, ℕ, List, Result, Ok, Err, IsTrue, IsFalse}
 use Rattle.std.specs.Global.{Vec}
 use Rattle.nml_tree.specs.Description.{Description}
-use Rattle.asm_tool.specs.PlainText.{is_plain_text, lines}
-use Rattle.asm_tool.specs.Assembly.{Assembles, FailsAt}
+use Rattle.asm_tool.specs.PlainText.{lines}
+use Rattle.asm_tool.specs.Assembly.{Assembles, FailsAt, is_fit}
 use Rattle.asm_tool.specs.declared.plain.PlainFault.{PlainFault}
 use Rattle.asm_tool.specs.declared.plain.PlainFault.TheVariants as faults
 
--- The words, where the text is plain and each line has its word or no token; else why there are none.
+-- The words, where the text is plain, not too long for PC, and each line has its word or no token; else why there are none.
 abbrev pub IsAnswer : Description → List ℕ → Result (Vec ℕ) PlainFault → Type 0
-IsAnswer d text (Ok words) = IsTrue (is_plain_text text) × Assembles d (lines text) words.items
-IsAnswer d text (Err faults.NotBuilt) = IsFalse (is_plain_text text)
-IsAnswer d text (Err (faults.NoMatch line)) = IsTrue (is_plain_text text) × FailsAt d (lines text) line
+IsAnswer d text (Ok words) = IsTrue (is_fit d text) × Assembles d (lines text) words.items
+IsAnswer d text (Err faults.NotBuilt) = IsFalse (is_fit d text)
+IsAnswer d text (Err (faults.NoMatch line)) = IsTrue (is_fit d text) × FailsAt d (lines text) line
 IsAnswer d text (Err faults.Memory) = Unit {0}
 
 -- the same words, or the same refusal; want of memory is as any

@@ -1,9 +1,10 @@
 -- Worked examples of the definitions, each by computation.
-use Rattle.std.specs.Prelude.{◌≡◌, refl, true, false, [], ◌∷◌, codes}
+use Rattle.std.specs.Prelude.{◌≡◌, ℕ, List, refl, true, false, [], ◌∷◌, codes}
 use Rattle.std.proofs.Common.{inl}
-use Rattle.nml_tree.specs.Description.{Description}
+use Rattle.nk_base.specs.declared.number.Ty.TheVariants as ty
+use Rattle.nml_tree.specs.Description.{Description, Field}
 use Rattle.asm_tool.specs.PlainText.{is_plain_text, lines}
-use Rattle.asm_tool.specs.Assembly.{GivesWords}
+use Rattle.asm_tool.specs.Assembly.{GivesWords, instruction_lines, is_too_long}
 
 plain : is_plain_text (codes "ldi 5\n outa") ≡ true
 plain = refl
@@ -44,3 +45,20 @@ no_text = refl
 -- a line of blanks gives no word
 blank : (d : Description) → GivesWords d (codes " \t\r") []
 blank d = inl (refl, refl)
+
+-- lines of blanks aren't counted
+three : instruction_lines (lines (codes "ldi 5\n \t\nouta\n\nhlt 0\n")) ≡ 3
+three = refl
+
+-- PC of one bit names two words
+abbrev pc : Field
+pc = record { name = codes "PC"; ty = ty.Card 1 }
+
+fits : is_too_long (pc ∷ []) (lines (codes "outa\n\nouta\n")) ≡ false
+fits = refl
+
+too_long : is_too_long (pc ∷ []) (lines (codes "outa\nouta\nouta")) ≡ true
+too_long = refl
+
+no_limit : (ls : List (List ℕ)) → is_too_long [] ls ≡ false
+no_limit ls = refl

@@ -57,7 +57,7 @@ fn with_number(word: u128, ty: Ty, number: i128) -> u128
 }
 
 /// How many bits a number of the type has.
-fn width(ty: Ty) -> u32
+pub fn width(ty: Ty) -> u32
     ensures { result ≡ width_of ty }
 {
     match ty {

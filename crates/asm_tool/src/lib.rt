@@ -1,6 +1,8 @@
 //! Assembles plain texts by a plain description: one word for each line that has a token.
 #![tactic(auto)]
 
+mod first_line;
+mod fit;
 mod image;
 mod laws;
 mod line;

@@ -1,6 +1,6 @@
 //! The tokens of a plain line.
 
-ghost use Rattle.std.specs.Prelude.{◌≡◌, ◌≤◌, ◌<◌, ◌^◌, ◌≤ℤ◌, pos, neg_ℤ, ℕ, List, [], true, length, map, IfOk, IsTrue, MatchOption};
+ghost use Rattle.std.specs.Prelude.{◌≡◌, ◌≤◌, ◌<◌, ◌^◌, ◌≤ℤ◌, nat_lt, pos, neg_ℤ, ℕ, List, [], true, length, map, IfOk, IsTrue, MatchOption};
 ghost use Rattle.std.specs.Char.{is_ascii_digit};
 ghost use Rattle.std.specs.List.{list_all, prefix_len};
 ghost use Rattle.std.specs.Str.Parse.{digits_value};
@@ -56,6 +56,13 @@ fn next_token(line: &[u8]) -> Option<(Token<'_>, &[u8])>
         let (value, rest) = number_at(from);
         Some((Token::Number(value), rest))
     }
+}
+
+/// Whether the line has a token, which it has where it has a byte that is no blank.
+pub fn has_token(line: &[u8]) -> bool
+    ensures { result ≡ nat_lt 0 (length (line_tokens line.now)) }
+{
+    !behind_blanks(line).is_empty()
 }
 
 /// The line without the blanks at its front.

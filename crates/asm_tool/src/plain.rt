@@ -1,17 +1,17 @@
 //! The assembly of plain texts, line by line.
 
-ghost use Rattle.std.specs.Prelude.{◌≡◌, ◌≤◌, length, map, IfOk, IsTrue, MatchBool};
-ghost use Rattle.std.specs.List.{prefix_len};
+ghost use Rattle.std.specs.Prelude.{◌≡◌, map, IfOk, IsTrue, MatchBool};
 ghost use Rattle.asm_tool.specs.Answer.{IsAnswer};
 ghost use Rattle.asm_tool.specs.Assembly.{HasNoMatch};
-ghost use Rattle.asm_tool.specs.FirstLine.{is_no_feed, IsFirstLine, Appends};
+ghost use Rattle.asm_tool.specs.FirstLine.{Appends};
 ghost use Rattle.asm_tool.specs.PlainText.{is_plain_line};
 ghost use Rattle.nml_tree.specs.Description.{description_of};
 ghost use Rattle.nml_tree.specs.IsPlain.{IsPlain, first_part};
 
+use crate::first_line::first_line;
+use crate::fit::is_fit;
 use crate::line::tokens_of;
 use crate::rules::{first_parts, word_of};
-use crate::text::is_plain_text;
 use indexmap::IndexSet;
 use nk_base::{Memory, Text};
 use nml_tree::Plain;
@@ -20,7 +20,7 @@ use std::alloc::{AllocError, AllocFailed, Global};
 /// Why a plain text isn't assembled.
 #[derive(Clone, Copy, Debug, PartialEq, Eq)]
 pub enum PlainFault {
-    /// The text isn't plain.
+    /// The text isn't plain, or has more lines with a token than PC has numbers.
     NotBuilt,
     /// No instruction has the tokens of this line, counted from 1; all lines before it have their words.
     NoMatch { line: u64 },
@@ -64,13 +64,13 @@ impl<T: Drop> From<AllocFailed<T>> for PlainFault {
 /// The words of a plain text, in order: one for each line that has a token, that of the one instruction whose
 /// syntax has the line's tokens.
 ///
-/// `NotBuilt` comes exactly where the text isn't plain, and `NoMatch` exactly where it is and a line fails, with the
-/// first such line. Want of memory may come at any growth. The rules are this project's own; docs/LANGUAGES.md states them.
+/// `NotBuilt` comes exactly where the text isn't plain, or where the description has registers and more lines have a
+/// token than PC has numbers. `NoMatch` comes exactly where neither is so and a line fails, with the first such line. Want of memory may come at any growth. The rules are this project's own; docs/LANGUAGES.md states them.
 pub fn plain_words(alloc: Global, p: &Plain, text: &[u8]) -> Result<Vec<u128>, PlainFault>
     requires plain { IsPlain (description_of p.now) }
     ensures answer { IsAnswer (description_of p.now) text.now result }
 {
-    if !is_plain_text(text) {
+    if !is_fit(p, text) {
         return Err(PlainFault::NotBuilt);
     }
     let first = first_parts(alloc, p)?;
@@ -112,23 +112,4 @@ fn push_word(
         }
         None => Ok(false),
     }
-}
-
-/// The first line, and what stands behind its line feed, where it has one.
-fn first_line(text: &[u8]) -> (&[u8], Option<&[u8]>)
-    ensures { IsFirstLine text.now result.0.now result.1 }
-{
-    let (line, rest) = text.split_at(line_len(text));
-    match rest.split_first() {
-        Some((_, more)) => (line, Some(more)),
-        None => (line, None),
-    }
-}
-
-/// How many bytes stand before the first line feed.
-fn line_len(text: &[u8]) -> usize
-    ensures value { result ≡ prefix_len is_no_feed text.now }
-    ensures within { result ≤ length text.now }
-{
-    text.iter().take_while(|c| **c != b'\n').count()
 }

@@ -2,6 +2,7 @@
 
 use crate::{PlainFault, plain_words};
 use nml_tree::plain;
+use std::alloc::Global;
 use std::test::Fail;
 
 /// Three instructions with words of ten bits.
@@ -11,12 +12,14 @@ op outa() syntax = \"outa\" image = \"1000000000\"
 op hlt(k: card(2)) syntax = format(\"hlt %d\", k) image = format(\"00000000%2b\", k)
 ";
 
+/// One instruction, and a PC of two numbers.
+const SHORT: &str = "reg PC[1, card(1)]
+op instruction = outa
+op outa() syntax = \"outa\" image = \"10000000\"
+";
+
 #[test]
 fn assembles_texts(rt: HostRuntime) -> Result<(), Fail> {
-    let alloc = rt.alloc();
-    let Some(machine) = plain(alloc, MACHINE.as_bytes())? else {
-        return Err(Fail::new("the description isn't plain"));
-    };
     let cases: [(&str, Result<&[u128], PlainFault>); 6] = [
         ("ldi 5\nouta\nhlt 0\n", Ok(&[0x105, 0x200, 0])),
         ("ldi -1", Ok(&[0x1ff])),
@@ -26,12 +29,40 @@ fn assembles_texts(rt: HostRuntime) -> Result<(), Fail> {
         ("ldi \"5\"", Err(PlainFault::NotBuilt)),
     ];
     for (text, expected) in cases {
-        let answer = plain_words(alloc, &machine, text.as_bytes());
-        let words = match &answer {
-            Ok(words) => Ok(words.as_slice()),
-            Err(fault) => Err(*fault),
-        };
-        assert_eq!(rt; words, expected, "{text}");
+        assembles(rt.alloc(), MACHINE, text, expected)?;
     }
     Ok(())
+}
+
+#[test]
+fn has_a_number_of_pc_for_each_word(rt: HostRuntime) -> Result<(), Fail> {
+    assembles(rt.alloc(), SHORT, "outa\n\nouta\n", Ok(&[0x80, 0x80]))?;
+    assembles(
+        rt.alloc(),
+        SHORT,
+        "outa\nouta\nouta",
+        Err(PlainFault::NotBuilt),
+    )
+}
+
+/// Fails where the text has another answer by the description.
+fn assembles(
+    alloc: Global,
+    description: &str,
+    text: &str,
+    expected: Result<&[u128], PlainFault>,
+) -> Result<(), Fail> {
+    let Some(machine) = plain(alloc, description.as_bytes())? else {
+        return Err(Fail::new("the description isn't plain"));
+    };
+    let answer = plain_words(alloc, &machine, text.as_bytes());
+    let words = match &answer {
+        Ok(words) => Ok(words.as_slice()),
+        Err(fault) => Err(*fault),
+    };
+    if words == expected {
+        Ok(())
+    } else {
+        Err(Fail::new(text))
+    }
 }

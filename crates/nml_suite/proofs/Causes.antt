@@ -6,13 +6,12 @@ use Rattle.nk_outside.specs.Held.{Reads, Lacks, IsTooLong}
 use Rattle.nk_outside.specs.Taken.{Took}
 use Rattle.nml_tree.specs.Description.{Description}
 use Rattle.nml_tree.specs.IsPlain.{word_width}
-use Rattle.nml_tree.specs.ReadAs.{ReadsAs}
-use Rattle.asm_tool.specs.Assembly.{Assembles, FailsAt}
-use Rattle.asm_tool.specs.PlainText.{is_plain_text, lines}
+use Rattle.asm_tool.specs.Assembly.{Assembles, FailsAt, is_fit}
+use Rattle.asm_tool.specs.PlainText.{lines}
 use Rattle.nml_suite.specs.Answer.{Moment, Answers, HasReadings}
 use Rattle.nml_suite.specs.Cause.{NamesToRead, HasAbsentFile, HasFailedFile, HasLongFile, HasOtherCommand, HasOtherDescription, HasRead, HasOtherText, HasBadLine, HasWords, HasCause}
 use Rattle.nml_suite.specs.Form.{Form, Check, Asm, Dis, Run, Cc, Ceval, Demo}
-use Rattle.nml_suite.specs.Outcome.{Outcome, outcome, unread, usage_line, not_built, not_built_file, no_match, assembled, AsmComesTo, ComesTo, NoDescription, Described, TextComesTo}
+use Rattle.nml_suite.specs.Outcome.{Describes, Outcome, outcome, unread, usage_line, not_built, not_built_file, no_match, assembled, AsmComesTo, ComesTo, NoDescription, Described, TextComesTo}
 use Rattle.nml_suite.specs.Outcome as outcomes
 use Rattle.nml_suite.specs.Reading.{Reading, Got, Absent, Failed, TooLong, Unread, HasReading}
 use Rattle.nml_suite.specs.Told.{Told, Whole, Cut, Starved, EndsIn}
@@ -27,14 +26,14 @@ data Way (b n : Moment) (form : Option Form) (o : Outcome) : Type 0 where
   FailedFile : (name : List ℕ) → NamesToRead form name → Rose b.counts.read_faults n.counts.read_faults → o ≡ unread name Failed → Way b n form o
   LongFile : (name : List ℕ) → NamesToRead form name → IsTooLong b.held name → o ≡ unread name TooLong → Way b n form o
   NoMemory : (name : List ℕ) → o ≡ unread name Unread → Way b n form o
-  OtherDescription : (d s i bytes : List ℕ) → form ≡ Some (Asm d s i) → Reads b.held d bytes → ((x : Description) → ReadsAs bytes x → ⊥) → o ≡ not_built_file d
+  OtherDescription : (d s i bytes : List ℕ) → form ≡ Some (Asm d s i) → Reads b.held d bytes → ((x : Description) → Describes bytes x → ⊥) → o ≡ not_built_file d
       → Way b n form o
-  OtherText : (r : HasRead b form) → IsFalse (is_plain_text r.text) → o ≡ not_built_file r.source → Way b n form o
-  BadLine : (r : HasRead b form) → IsTrue (is_plain_text r.text) → (line : ℕ) → FailsAt r.plain (lines r.text) line → o ≡ no_match r.source line → Way b n form o
-  Words : (r : HasRead b form) → IsTrue (is_plain_text r.text) → (words : List ℕ) → Assembles r.plain (lines r.text) words
+  OtherText : (r : HasRead b form) → IsFalse (is_fit r.plain r.text) → o ≡ not_built_file r.source → Way b n form o
+  BadLine : (r : HasRead b form) → IsTrue (is_fit r.plain r.text) → (line : ℕ) → FailsAt r.plain (lines r.text) line → o ≡ no_match r.source line → Way b n form o
+  Words : (r : HasRead b form) → IsTrue (is_fit r.plain r.text) → (words : List ℕ) → Assembles r.plain (lines r.text) words
       → o ≡ assembled (word_width r.plain.rules) words → Way b n form o
 
-text_way : (b n : Moment) (d s i bytes : List ℕ) (x : Description) (second : Reading) (o : Outcome) → Reads b.held d bytes → ReadsAs bytes x
+text_way : (b n : Moment) (d s i bytes : List ℕ) (x : Description) (second : Reading) (o : Outcome) → Reads b.held d bytes → Describes bytes x
     → HasReading b.held b.counts n.counts s second → TextComesTo x s second o → Way b n (Some (Asm d s i)) o
 text_way b n d s i bytes x (Got text) o r a c (outcomes.NotPlain p e) =
     OtherText (record { description = d; source = s; image = i; is = refl; bytes = bytes; read = r; plain = x; described = a; text = text; text_read = c }) p e
@@ -160,7 +159,7 @@ source_by b n form o (LongFile name k l e) h t = cc
 source_by b n form o (NoMemory name e) h t = cc
 source_by b n form o (OtherDescription d s i bytes f r none e) h t = cc
 source_by b n form o (OtherText r p e) h t = cc
-source_by b n form o (BadLine r p line f e) h t = record { files = r; plain_text = p; line = line; fails = f; told = t }
+source_by b n form o (BadLine r p line f e) h t = record { files = r; fit = p; line = line; fails = f; told = t }
 source_by b n form o (Words r p words a e) h t = cc
 
 done_by : (b n : Moment) (form : Option Form) (o : Outcome) (w : Way b n form o) → (outcome_in b n form o w).0.status ≡ statuses.Done
@@ -174,7 +173,7 @@ done_by b n form o (NoMemory name e) h t = cc
 done_by b n form o (OtherDescription d s i bytes f r none e) h t = cc
 done_by b n form o (OtherText r p e) h t = cc
 done_by b n form o (BadLine r p line f e) h t = cc
-done_by b n form o (Words r p words a e) h t = record { files = r; plain_text = p; words = words; assembles = a; told = t }
+done_by b n form o (Words r p words a e) h t = record { files = r; fit = p; words = words; assembles = a; told = t }
 
 -- the statuses of outcomes, and those of a failed put and of want of memory
 abbrev ended : List Status

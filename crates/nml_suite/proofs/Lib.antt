@@ -1,3 +1,4 @@
+pub mod Built
 pub mod Causes
 pub mod Lines
 pub mod OneOutcome

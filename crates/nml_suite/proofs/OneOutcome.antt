@@ -50,7 +50,7 @@ one_bytes one words d s bytes r o p (NoDescription n e) (NoDescription m f) = e 
 one_bytes one words d s bytes r o p (NoDescription n e) (Described x a t) = absurd (n x a)
 one_bytes one words d s bytes r o p (Described x a t) (NoDescription n e) = absurd (n x a)
 one_bytes one words d s bytes r o p (Described x a t) (Described y b u) =
-    one_reading y (words y b.plain) s r o p (subst (λ z. TextComesTo z s r o) (one bytes x y a b) t) u
+    one_reading y (words y b.reads.plain) s r o p (subst (λ z. TextComesTo z s r o) (one bytes x y a.reads b.reads) t) u
 
 -- the text that was taken, where no put failed
 full : (b n : Moment) (o : Outcome) (s : Status) → Told o b.taken n.taken b.faults n.faults s → (Rose b.faults n.faults → ⊥) → AnswersInFull b n o s

@@ -3,9 +3,8 @@ use Rattle.std.proofs.Common.{ℕ, ◌+◌, ◌≤◌, List, Option, Result, Ok,
 use Rattle.nk_outside.specs.Count.{Counts}
 use Rattle.nk_outside.specs.Held.{Names, Reads, Lacks, IsTooLong}
 use Rattle.nml_tree.specs.Description.{Description}
-use Rattle.nml_tree.specs.ReadAs.{ReadsAs}
 use Rattle.nml_suite.specs.Answer.{ReadsTwo}
-use Rattle.nml_suite.specs.Outcome.{Outcome, unread, not_built_file, no_match, assembled, AssemblesTo, NotPlain, NoMatch, Whole, NoDescription, Described}
+use Rattle.nml_suite.specs.Outcome.{Describes, Outcome, unread, not_built_file, no_match, assembled, AssemblesTo, NotPlain, NoMatch, Whole, NoDescription, Described}
 use Rattle.nml_suite.specs.Reading.{Reading, Got, Absent, Failed, TooLong, Unread, HasReading, LeavesFiles}
 use Rattle.nml_suite.specs.Refused.{refused, settled, IsLoaded, IsDescribed, IsAssembledText, AsmSettles}
 use Rattle.nml_suite.specs.declared.assemble.Assembled.{Assembled}
@@ -43,7 +42,7 @@ read_two : (h k : Option Names) (b m n : Counts) (d s bytes : List ℕ) (x : Rea
     → HasReading k m n s x → ReadsTwo h b n d s (Got bytes) x
 read_two h k b m n d s bytes x r l c y = record { first_cause = r; second_cause = earlier h k b m n s x l y; calls = omega arith }
 
-pub text_refused : (h k : Option Names) (b m n : Counts) (d s bytes : List ℕ) (x : Description) (e : Refusal) → Reads h d bytes → ReadsAs bytes x
+pub text_refused : (h k : Option Names) (b m n : Counts) (d s bytes : List ℕ) (x : Description) (e : Refusal) → Reads h d bytes → Describes bytes x
     → LeavesFiles h k b m 1 → n.calls ≤ m.calls + 1 → IsLoaded k m n s (Err e) → AsmSettles h b n d s (refused e)
 text_refused h k b m n d s bytes x refusals.Memory r i l c y = starved h b n d s (omega arith)
 text_refused h k b m n d s bytes x (refusals.Absent name) r i l c y = record {
@@ -68,7 +67,7 @@ text_refused h k b m n d s bytes x (refusals.NotBuilt name) r i l c y = absurd y
 text_refused h k b m n d s bytes x (refusals.NoMatch name line) r i l c y = absurd y
 
 -- both files were read, and the text comes to this
-came : (h k : Option Names) (b m n : Counts) (d s bytes text : List ℕ) (x : Description) (o : Outcome) → Reads h d bytes → ReadsAs bytes x
+came : (h k : Option Names) (b m n : Counts) (d s bytes text : List ℕ) (x : Description) (o : Outcome) → Reads h d bytes → Describes bytes x
     → LeavesFiles h k b m 1 → n.calls ≤ m.calls + 1 → Reads k s text → AssemblesTo x s text o → AsmSettles h b n d s o
 came h k b m n d s bytes text x o r i l c y z = record {
   first = Got bytes;
@@ -78,7 +77,7 @@ came h k b m n d s bytes text x o r i l c y z = record {
 }
 
 pub text_settled : (h k : Option Names) (b m n : Counts) (d s bytes text : List ℕ) (x : Description) (r : Result Assembled Refusal) → Reads h d bytes
-    → ReadsAs bytes x → LeavesFiles h k b m 1 → n.calls ≤ m.calls + 1 → Reads k s text → IsAssembledText x s text r → AsmSettles h b n d s (settled r)
+    → Describes bytes x → LeavesFiles h k b m 1 → n.calls ≤ m.calls + 1 → Reads k s text → IsAssembledText x s text r → AsmSettles h b n d s (settled r)
 text_settled h k b m n d s bytes text x (Ok made) r i l c y z =
     came h k b m n d s bytes text x _ r i l c y (Whole z.0 made.words.items z.1 (ap (λ w. assembled w made.words.items) z.2))
 text_settled h k b m n d s bytes text x (Err refusals.Memory) r i l c y z = starved h b n d s (omega arith)

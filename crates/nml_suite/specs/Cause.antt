@@ -5,13 +5,12 @@ use Rattle.nk_outside.specs.Held.{Names, Reads, Lacks, IsTooLong, file_limit}
 use Rattle.nk_outside.specs.Taken.{Took}
 use Rattle.nml_tree.specs.Description.{Description}
 use Rattle.nml_tree.specs.IsPlain.{word_width}
-use Rattle.nml_tree.specs.ReadAs.{ReadsAs}
-use Rattle.asm_tool.specs.Assembly.{Assembles, FailsAt}
-use Rattle.asm_tool.specs.PlainText.{is_plain_text, lines}
+use Rattle.asm_tool.specs.Assembly.{Assembles, FailsAt, is_fit}
+use Rattle.asm_tool.specs.PlainText.{lines}
 use Rattle.nml_suite.specs.Answer.{Moment}
 use Rattle.nml_suite.specs.Told.{EndsIn}
 use Rattle.nml_suite.specs.Form.{Form, Asm}
-use Rattle.nml_suite.specs.Outcome.{Outcome, AsmComesTo, usage_line, not_built, not_built_file, no_match, assembled}
+use Rattle.nml_suite.specs.Outcome.{Describes, Outcome, AsmComesTo, usage_line, not_built, not_built_file, no_match, assembled}
 use Rattle.nml_suite.specs.Reading.{Reading, Got, Absent, TooLong}
 use Rattle.nml_suite.specs.declared.status.Status.{Status}
 use Rattle.nml_suite.specs.declared.status.Status.TheVariants as statuses
@@ -50,7 +49,7 @@ pub record HasOtherCommand (before now : Moment) (form : Option Form) : Type 0 w
   pub other : (d s i : List ℕ) → command ≡ Asm d s i → ⊥
   pub text : Took before.taken now.taken not_built.text
 
--- the description was read and is not plain
+-- the description was read and is not one that is built
 pub record HasOtherDescription (before now : Moment) (form : Option Form) : Type 0 where
   pub description : List ℕ
   pub source : List ℕ
@@ -58,10 +57,10 @@ pub record HasOtherDescription (before now : Moment) (form : Option Form) : Type
   pub is : form ≡ Some (Asm description source image)
   pub bytes : List ℕ
   pub read : Reads before.held description bytes
-  pub none : (d : Description) → ReadsAs bytes d → ⊥
+  pub none : (d : Description) → Describes bytes d → ⊥
   pub text : Took before.taken now.taken (not_built_file description).text
 
--- both files of `asm` were read, and the description is plain
+-- both files of `asm` were read, and the description is one that is built
 pub record HasRead (before : Moment) (form : Option Form) : Type 0 where
   pub description : List ℕ
   pub source : List ℕ
@@ -70,28 +69,28 @@ pub record HasRead (before : Moment) (form : Option Form) : Type 0 where
   pub bytes : List ℕ
   pub read : Reads before.held description bytes
   pub plain : Description
-  pub described : ReadsAs bytes plain
+  pub described : Describes bytes plain
   pub text : List ℕ
   pub text_read : Reads before.held source text
 
--- the text is not plain
+-- the text doesn't fit the description
 pub record HasOtherText (before now : Moment) (form : Option Form) : Type 0 where
   pub files : HasRead before form
-  pub other : IsFalse (is_plain_text files.text)
+  pub other : IsFalse (is_fit files.plain files.text)
   pub told : Took before.taken now.taken (not_built_file files.source).text
 
--- the text is plain, and the text told names its first line without a match
+-- the text fits, and what was told names its first line without a match
 pub record HasBadLine (before now : Moment) (form : Option Form) : Type 0 where
   pub files : HasRead before form
-  pub plain_text : IsTrue (is_plain_text files.text)
+  pub fit : IsTrue (is_fit files.plain files.text)
   pub line : ℕ
   pub fails : FailsAt files.plain (lines files.text) line
   pub told : Took before.taken now.taken (no_match files.source line).text
 
--- the text is plain, and its words were told
+-- the text fits, and its words were told
 pub record HasWords (before now : Moment) (form : Option Form) : Type 0 where
   pub files : HasRead before form
-  pub plain_text : IsTrue (is_plain_text files.text)
+  pub fit : IsTrue (is_fit files.plain files.text)
   pub words : List ℕ
   pub assembles : Assembles files.plain (lines files.text) words
   pub told : Took before.taken now.taken (assembled (word_width files.plain.rules) words).text

@@ -1,12 +1,13 @@
 -- What a call comes to: a status and a text, by the words and what each read answered.
-use Rattle.std.specs.Prelude.{◌≡◌, ℕ, List, [], ◌∷◌, ◌++◌, length, Option, Some, None, codes, IsTrue, IsFalse}
+use Rattle.std.specs.Prelude.{◌≡◌, ℕ, List, [], ◌∷◌, ◌++◌, length, Option, Some, None, codes, IsTrue, IsFalse, Bool, nat_eq, is_none, ◌&&◌}
+use Rattle.std.specs.List.{list_all}
 use Rattle.std.specs.Fmt.{decimal}
 use Rattle.nk_base.specs.Hexadecimal.{hexadecimal, digits_of_word}
 use Rattle.nml_tree.specs.Description.{Description}
 use Rattle.nml_tree.specs.IsPlain.{word_width}
 use Rattle.nml_tree.specs.ReadAs.{ReadsAs}
-use Rattle.asm_tool.specs.Assembly.{Assembles, FailsAt}
-use Rattle.asm_tool.specs.PlainText.{is_plain_text, lines}
+use Rattle.asm_tool.specs.Assembly.{Assembles, FailsAt, is_fit}
+use Rattle.asm_tool.specs.PlainText.{lines}
 use Rattle.nml_suite.specs.Form.{Form, Check, Asm, Dis, Run, Cc, Ceval, Demo}
 use Rattle.nml_suite.specs.Reading.{Reading, Got, Absent, Failed, TooLong, Unread}
 use Rattle.nml_suite.specs.declared.status.Status.{Status}
@@ -52,9 +53,9 @@ assembled width words = outcome statuses.Done (word_lines width words ++ ok_line
 
 -- What `asm` comes to on a plain description and the bytes of a text.
 pub data AssemblesTo (d : Description) (name text : List ℕ) (o : Outcome) : Type 0 where
-  NotPlain : IsFalse (is_plain_text text) → o ≡ not_built_file name → AssemblesTo d name text o
-  NoMatch : IsTrue (is_plain_text text) → (line : ℕ) → FailsAt d (lines text) line → o ≡ no_match name line → AssemblesTo d name text o
-  Whole : IsTrue (is_plain_text text) → (words : List ℕ) → Assembles d (lines text) words → o ≡ assembled (word_width d.rules) words
+  NotPlain : IsFalse (is_fit d text) → o ≡ not_built_file name → AssemblesTo d name text o
+  NoMatch : IsTrue (is_fit d text) → (line : ℕ) → FailsAt d (lines text) line → o ≡ no_match name line → AssemblesTo d name text o
+  Whole : IsTrue (is_fit d text) → (words : List ℕ) → Assembles d (lines text) words → o ≡ assembled (word_width d.rules) words
       → AssemblesTo d name text o
 
 -- what a file that gave no bytes comes to; it stays unread for want of memory
@@ -73,10 +74,22 @@ TextComesTo d name Failed o = o ≡ unread name Failed
 TextComesTo d name TooLong o = o ≡ unread name TooLong
 TextComesTo d name Unread o = o ≡ unread name Unread
 
+-- The descriptions that are built so far: rules alone, without registers, a port and actions.
+abbrev pub declares_nothing : Description → Bool
+declares_nothing d = nat_eq (length d.regs) 0 && is_none d.out
+
+abbrev pub is_built : Description → Bool
+is_built d = declares_nothing d && list_all (λ r. nat_eq (length r.action) 0) d.rules
+
+-- the bytes spell a description that is built
+pub record Describes (bytes : List ℕ) (d : Description) : Type 0 where
+  pub reads : ReadsAs bytes d
+  pub built : IsTrue (is_built d)
+
 -- What `asm` comes to on the bytes of a description and what the read of a text answered.
 pub data BytesComeTo (name source bytes : List ℕ) (second : Reading) (o : Outcome) : Type 0 where
-  NoDescription : ((d : Description) → ReadsAs bytes d → ⊥) → o ≡ not_built_file name → BytesComeTo name source bytes second o
-  Described : (d : Description) → ReadsAs bytes d → TextComesTo d source second o → BytesComeTo name source bytes second o
+  NoDescription : ((d : Description) → Describes bytes d → ⊥) → o ≡ not_built_file name → BytesComeTo name source bytes second o
+  Described : (d : Description) → Describes bytes d → TextComesTo d source second o → BytesComeTo name source bytes second o
 
 -- what `asm` comes to: the description first, then the text
 abbrev pub AsmComesTo : List ℕ → List ℕ → Reading → Reading → Outcome → Type 0

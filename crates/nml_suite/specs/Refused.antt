@@ -3,14 +3,13 @@ use Rattle.std.specs.Prelude.{◌≡◌, ℕ, List, [], Option, Result, Ok, Err,
 use Rattle.std.specs.Global.{Vec}
 use Rattle.nml_tree.specs.Description.{Description, description_of}
 use Rattle.nml_tree.specs.IsPlain.{word_width}
-use Rattle.nml_tree.specs.ReadAs.{ReadsAs}
 use Rattle.nml_tree.specs.declared.rules.Plain.{Plain}
-use Rattle.asm_tool.specs.Assembly.{Assembles, FailsAt}
-use Rattle.asm_tool.specs.PlainText.{is_plain_text, lines}
+use Rattle.asm_tool.specs.Assembly.{Assembles, FailsAt, is_fit}
+use Rattle.asm_tool.specs.PlainText.{lines}
 use Rattle.nk_outside.specs.Count.{Counts}
 use Rattle.nk_outside.specs.Held.{Names}
 use Rattle.nml_suite.specs.Answer.{ReadsTwo}
-use Rattle.nml_suite.specs.Outcome.{Outcome, outcome, unread, not_built_file, no_match, assembled, AsmComesTo}
+use Rattle.nml_suite.specs.Outcome.{Describes, is_built, Outcome, outcome, unread, not_built_file, no_match, assembled, AsmComesTo}
 use Rattle.nml_suite.specs.Reading.{Reading, Got, Absent, Failed, TooLong, HasReading}
 use Rattle.nml_suite.specs.declared.assemble.Assembled.{Assembled}
 use Rattle.nml_suite.specs.declared.refusal.Refusal.{Refusal}
@@ -35,25 +34,35 @@ IsLoaded held before now name (Err (refusals.TooLong n)) = (n.now ≡ name) × H
 IsLoaded held before now name (Err (refusals.NotBuilt n)) = ⊥
 IsLoaded held before now name (Err (refusals.NoMatch n line)) = ⊥
 
+-- the description is one that is built, or the file of this name isn't built
+abbrev pub IsBuilt : List ℕ → Plain → Result Plain Refusal → Type 0
+IsBuilt name found (Ok p) = (p ≡ found) × IsTrue (is_built (description_of found))
+IsBuilt name found (Err refusals.Memory) = ⊥
+IsBuilt name found (Err (refusals.Absent n)) = ⊥
+IsBuilt name found (Err (refusals.Failed n)) = ⊥
+IsBuilt name found (Err (refusals.TooLong n)) = ⊥
+IsBuilt name found (Err (refusals.NotBuilt n)) = (n.now ≡ name) × IsFalse (is_built (description_of found))
+IsBuilt name found (Err (refusals.NoMatch n line)) = ⊥
+
 -- the bytes are the description, or the file of this name isn't built
 abbrev pub IsDescribed : List ℕ → List ℕ → Result Plain Refusal → Type 0
-IsDescribed name bytes (Ok p) = ReadsAs bytes (description_of p)
+IsDescribed name bytes (Ok p) = Describes bytes (description_of p)
 IsDescribed name bytes (Err refusals.Memory) = Unit {0}
 IsDescribed name bytes (Err (refusals.Absent n)) = ⊥
 IsDescribed name bytes (Err (refusals.Failed n)) = ⊥
 IsDescribed name bytes (Err (refusals.TooLong n)) = ⊥
-IsDescribed name bytes (Err (refusals.NotBuilt n)) = (n.now ≡ name) × ((d : Description) → ReadsAs bytes d → ⊥)
+IsDescribed name bytes (Err (refusals.NotBuilt n)) = (n.now ≡ name) × ((d : Description) → Describes bytes d → ⊥)
 IsDescribed name bytes (Err (refusals.NoMatch n line)) = ⊥
 
 -- the text of this name was assembled, or it isn't built, or a line fails
 abbrev pub IsAssembledText : Description → List ℕ → List ℕ → Result Assembled Refusal → Type 0
-IsAssembledText d name text (Ok made) = IsTrue (is_plain_text text) × Assembles d (lines text) made.words.items × (made.width ≡ word_width d.rules)
+IsAssembledText d name text (Ok made) = IsTrue (is_fit d text) × Assembles d (lines text) made.words.items × (made.width ≡ word_width d.rules)
 IsAssembledText d name text (Err refusals.Memory) = Unit {0}
 IsAssembledText d name text (Err (refusals.Absent n)) = ⊥
 IsAssembledText d name text (Err (refusals.Failed n)) = ⊥
 IsAssembledText d name text (Err (refusals.TooLong n)) = ⊥
-IsAssembledText d name text (Err (refusals.NotBuilt n)) = (n.now ≡ name) × IsFalse (is_plain_text text)
-IsAssembledText d name text (Err (refusals.NoMatch n line)) = (n.now ≡ name) × IsTrue (is_plain_text text) × FailsAt d (lines text) line
+IsAssembledText d name text (Err (refusals.NotBuilt n)) = (n.now ≡ name) × IsFalse (is_fit d text)
+IsAssembledText d name text (Err (refusals.NoMatch n line)) = (n.now ≡ name) × IsTrue (is_fit d text) × FailsAt d (lines text) line
 
 -- what comes of the words or a refusal
 abbrev pub settled : Result Assembled Refusal → Outcome

@@ -1,5 +1,8 @@
 ghost use Rattle.nml_suite.specs.Reading.{LeavesFiles};
-ghost use Rattle.nml_suite.specs.Refused.{IsDescribed, IsAssembledText, AsmSettles, settled};
+ghost use Rattle.nml_suite.specs.Refused.{IsBuilt, IsDescribed, IsAssembledText, AsmSettles, settled};
+ghost use Rattle.std.specs.Prelude.{◌≡◌, length, nat_eq};
+ghost use Rattle.std.specs.List.{list_all};
+ghost use Rattle.nml_suite.specs.Outcome as spec;
 ghost use Rattle.nml_tree.specs.Description.{description_of};
 ghost use Rattle.nml_tree.specs.IsPlain.{IsPlain};
 
@@ -8,7 +11,7 @@ use crate::refusal::Refusal;
 use asm_tool::{PlainFault, plain_words};
 use nk_base::{Memory, Text};
 use nk_outside::Files;
-use nml_tree::{Plain, plain, word_bits};
+use nml_tree::{Plain, PlainRule, plain, word_bits};
 use std::alloc::Global;
 
 /// The words of a text, and how many bits a word has.
@@ -34,15 +37,49 @@ pub fn assemble<'a, F: Files>(
     words_of(alloc, source, &plain, &text)
 }
 
-/// The plain description that the bytes of the named file spell.
+/// The description that the bytes of the named file spell, where it is one that is built.
 fn describe<'a>(alloc: Global, name: &'a Text, bytes: &[u8]) -> Result<Plain, Refusal<'a>>
     ensures { IsDescribed name.now bytes.now result }
 {
     match plain(alloc, bytes) {
-        Ok(Some(found)) => Ok(found),
+        Ok(Some(found)) => built(name, found),
         Ok(None) => Err(Refusal::NotBuilt(name)),
         Err(Memory) => Err(Refusal::Memory),
     }
+}
+
+/// The description, where it is one that is built.
+fn built<'a>(name: &'a Text, found: Plain) -> Result<Plain, Refusal<'a>>
+    ensures { IsBuilt name.now found result }
+{
+    if is_built(&found) {
+        Ok(found)
+    } else {
+        Err(Refusal::NotBuilt(name))
+    }
+}
+
+/// Whether the description is of rules alone, without registers, a port and actions.
+#[tactic(auto, using(crate::proofs::Built::all_mapped))]
+fn is_built(plain: &Plain) -> bool
+    ensures { result ≡ spec.is_built (description_of plain.now) }
+{
+    declares_nothing(plain) && are_without_actions(&plain.rules)
+}
+
+/// Whether the description has no registers and no port.
+#[tactic(auto, using(crate::proofs::Built::none_mapped))]
+fn declares_nothing(plain: &Plain) -> bool
+    ensures { result ≡ spec.declares_nothing (description_of plain.now) }
+{
+    plain.regs.is_empty() && plain.out.is_none()
+}
+
+/// Whether no rule has an action.
+fn are_without_actions(rules: &[PlainRule]) -> bool
+    ensures { result ≡ list_all (λ r. nat_eq (length r.action.items) 0) rules.now }
+{
+    rules.iter().all(|rule| rule.action.is_empty())
 }
 
 /// The words of the named file's text.

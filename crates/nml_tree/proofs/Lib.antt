@@ -7,6 +7,8 @@ pub mod RuleLoop
 pub mod ReadFronts
 pub mod ReadFields
 pub mod ReadItems
+pub mod ReadStorage
+pub mod PlainReads
 pub mod ReadTexts
 pub mod ReadRules
 pub mod Unique
@@ -15,5 +17,14 @@ pub mod Apart
 pub mod Cuts
 pub mod Pieces
 pub mod Plainness
+pub mod Places
+pub mod Left
 pub mod Samples
 pub mod WordWidth
+pub mod Room
+pub mod ReadPlaces
+pub mod PlaceOf
+pub mod ReadNames
+pub mod ReadStmts
+pub mod ReadActions
+pub mod StmtLoop

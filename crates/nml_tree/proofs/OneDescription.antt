@@ -4,10 +4,9 @@ use Rattle.nml_tree.specs.Description.{Description}
 use Rattle.nml_tree.specs.ReadAs.{ReadsAs}
 use Rattle.nml_tree.specs.Spelling.{IsSpelling}
 use Rattle.nml_tree.proofs.Lexed.{unique}
-use Rattle.nml_tree.proofs.Reading.{readable}
 use Rattle.nml_tree.proofs.Unique.{one_spelling_holds}
 
 pub one_description_holds : (bytes : List ℕ) (d e : Description) → ReadsAs bytes d → ReadsAs bytes e → d ≡ e
 one_description_holds bytes d e x y =
-    one_spelling_holds x.tokens d e (readable d x.plain) (readable e y.plain) x.spelled
+    one_spelling_holds x.tokens d e x.plain y.plain x.spelled
     (subst (IsSpelling e) (unique bytes y.tokens x.tokens y.has x.has) y.spelled)

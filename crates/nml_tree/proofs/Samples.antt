@@ -1,12 +1,13 @@
 -- The sample machine's texts with numbers in them, that it is plain, and a spelling that it doesn't have.
-use Rattle.std.proofs.Common.{◌≡◌, refl, ap, ◌∙◌, ℕ, List, negsuc, [], ◌∷◌, codes, lit<, lit≤, arith, AllPairs, length, inl, inr}
+use Rattle.std.proofs.Common.{◌≡◌, refl, ap, ◌∙◌, ℕ, List, negsuc, [], ◌∷◌, codes, lit<, lit≤, arith, AllPairs, length, inl, inr, None}
 use Rattle.std.proofs.lemmas.Fmt.{decimal-digits_of}
 use Rattle.std.proofs.lemmas.List.Elements.{All-from_recursion}
 use Rattle.std.proofs.lemmas.List.Kept.{AllPairs-cons}
 use Rattle.std.specs.Fmt.{decimal}
 use Rattle.std.specs.List.{IsDistinct, AllByRecursion}
 use Rattle.nml_tree.specs.Attribute.{syntax_of}
-use Rattle.nml_tree.specs.IsPlain.{IsPlain, IsRule, AreApart}
+use Rattle.nml_tree.specs.Description.{Field}
+use Rattle.nml_tree.specs.IsPlain.{IsPlain, IsRule, IsAction, AreApart}
 use Rattle.nml_tree.specs.LineToken.{Word, Number, line_tokens}
 use Rattle.nml_tree.specs.SampleMachine.{ldi, outa, hlt, machine}
 use Rattle.nml_tree.specs.Spelling.{IsTextSpelling}
@@ -61,11 +62,19 @@ is_hlt = record {
   image_is = refl;
 }
 
+nothing : {fields : List Field} → IsAction [] None fields []
+unfolding IsDistinct
+nothing = record { each = tt; places_differ = tt }
+
 pub plain_machine : IsPlain machine
 unfolding IsDistinct
 plain_machine = record {
+  regs_are = tt;
+  port_is = tt;
   rules_are = (is_ldi, (is_outa, (is_hlt, tt)));
   names_differ = ((refl, (refl, (refl, tt))), ((refl, (refl, tt)), ((refl, tt), (tt, tt))));
+  fields_apart = ((refl, tt), (tt, ((refl, tt), tt)));
+  actions_are = (nothing, (nothing, (nothing, tt)));
   first_parts_differ = ((refl, (refl, tt)), ((refl, tt), (tt, tt)));
   one_width = (refl, (refl, (refl, tt)));
   wide = lit≤ tt;

@@ -1,16 +1,18 @@
 -- Words for the private contracts of the check.
-use Rattle.std.specs.Prelude.{◌≡◌, ℕ, ◌+◌, ◌<◌, ◌≤◌, length, take, Bool, false, List, [], map, Option, None, Some, IsTrue}
+use Rattle.std.specs.Prelude.{◌≡◌, ℕ, suc, ◌+◌, ◌<◌, ◌≤◌, length, take, Bool, false, List, [], map, Option, None, Some, IsTrue, AllPairs}
 use Rattle.std.specs.Borrow.{Bor}
 use Rattle.std.specs.Char.{is_ascii_digit}
-use Rattle.std.specs.List.{list_all, list_any, AllByRecursion}
+use Rattle.std.specs.List.{list_all, list_any, IsDistinct, AllByRecursion}
 use Rattle.nk_base.specs.Text.{text_eq}
 use Rattle.nml_tree.specs.Attribute as attribute
 use Rattle.nml_tree.specs.Attribute.{parts}
-use Rattle.nml_tree.specs.Description.{Rule, field_of}
-use Rattle.nml_tree.specs.IsPlain.{is_image, image_width, word_width}
+use Rattle.nml_tree.specs.Description.{Rule, Description, field_of}
+use Rattle.nml_tree.specs.IsPlain.{IsRule, IsApart, AreApart, declared, reserved, first_part, leading_digits, is_image, image_width, word_width}
 use Rattle.nml_tree.specs.declared.image.Piece.{Piece}
 use Rattle.nml_tree.specs.declared.image.Piece.TheVariants as lent
 use Rattle.nml_tree.specs.declared.rules.PlainField.{PlainField}
+use Rattle.nml_tree.specs.declared.rules.PlainStmt.{PlainStmt}
+use Rattle.nml_tree.specs.declared.rules.PlainStmt.TheVariants as stmt
 
 -- the parts of what stands behind a blank, if there is one
 abbrev pub parts_behind : Option (Bor (List ℕ)) → List (List ℕ)
@@ -46,3 +48,21 @@ pub record HasOneWidth (rules : List Rule) : Type 0 where
   pub one : AllByRecursion (λ r. image_width r ≡ word_width rules) rules
   pub wide : 8 ≤ word_width rules
   pub narrow : word_width rules ≤ 64
+
+-- what rules are besides their names and actions
+pub record ArePlainRules (rules : List Rule) : Type 0 where
+  pub each : AllByRecursion IsRule rules
+  pub first_parts_differ : IsDistinct text_eq (map first_part rules)
+  pub widths : HasOneWidth rules
+  pub leading_apart : AllPairs AreApart (map leading_digits rules)
+
+-- the declared names differ, and no field has a reserved one
+pub record HasOwnNames (d : Description) : Type 0 where
+  pub names_differ : IsDistinct text_eq (declared d)
+  pub fields_apart : AllByRecursion (λ r. AllByRecursion (IsApart (reserved d)) r.fields) d.rules
+
+-- a number for a statement's place
+abbrev pub place_number : PlainStmt → ℕ
+place_number (stmt.Halt v) = 0
+place_number (stmt.Out v) = 1
+place_number (stmt.Reg n v) = suc (suc n)

@@ -10,4 +10,9 @@ pub mod ReadAs
 pub mod SampleTokens
 pub mod SampleMachine
 pub mod Reading
+pub mod DescriptionReading
 pub mod Checked
+pub mod Cells
+pub mod Effect
+pub mod SeenWrites
+pub mod ActionReading

@@ -1,12 +1,12 @@
--- Reading a description from the front of its tokens, as the code does. Private: the contracts of the reader's helpers
--- cite it, and what a description's spelling is stands in Spelling.
+-- Reading the parts of a description from the front of its tokens, as the code does. Private: the contracts of the
+-- reader's helpers cite it, and what a description's spelling is stands in Spelling.
 use Rattle.std.specs.Prelude.{ℕ, zero, suc, nat_le, ◌==◌, ◌&&◌, Bool, List, [], ◌∷◌, ◌++◌, length, Option, Some, None, option_and_then, codes, if◌then◌else◌}
 use Rattle.std.specs.Option.{option_or}
 use Rattle.nk_base.specs.Text.{text_eq}
 use Rattle.nk_base.specs.declared.number.Ty.{Ty}
 use Rattle.nk_base.specs.declared.number.Ty.TheVariants as ty
 use Rattle.nml_tree.specs.Token.{Token, Word, Number, Quoted, Mark}
-use Rattle.nml_tree.specs.Description.{Field, Rule, Description}
+use Rattle.nml_tree.specs.Description.{Field}
 
 infixl 10 ◌>>=◌
 abbrev pub ◌>>=◌ : {A B : Type 0} → Option A → (A → Option B) → Option B
@@ -96,6 +96,42 @@ field_at ts = do
   found ← type_at rest
   Some (named name.0 found.0, found.1)
 
+-- what stands behind the number 1
+unfoldable pub behind_one : List Token → Option (List Token)
+behind_one ts = do
+  n ← number_at ts
+  if n.0 == 1 then Some n.1 else None
+
+-- `reg NAME[1, T]`
+unfoldable pub reg_at : List Token → Option (Field × List Token)
+reg_at ts = do
+  after ← behind_word (codes "reg") ts
+  name ← word_at after
+  size ← behind_mark 91 name.1
+  sized ← behind_one size
+  inside ← behind_mark 44 sized
+  found ← type_at inside
+  rest ← behind_mark 93 found.1
+  Some (named name.0 found.0, rest)
+
+-- `out NAME[T]`
+unfoldable pub out_at : List Token → Option (Field × List Token)
+out_at ts = do
+  after ← behind_word (codes "out") ts
+  name ← word_at after
+  inside ← behind_mark 91 name.1
+  found ← type_at inside
+  rest ← behind_mark 93 found.1
+  Some (named name.0 found.0, rest)
+
+abbrev pub port_of : Option (Field × List Token) → List Token → Option Field × List Token
+port_of None ts = (None, ts)
+port_of (Some x) ts = (Some x.0, x.1)
+
+-- the port, if there is one
+abbrev pub port_at : List Token → Option Field × List Token
+port_at ts = port_of (out_at ts) ts
+
 -- the items with the mark between two, from the front on
 abbrev pub items_at : {A : Type 0} → (List Token → Option (A × List Token)) → ℕ → List Token → List A × List Token
 items_at item mark ts = listed item mark (length ts) (item ts) ts
@@ -154,24 +190,6 @@ behind_head name ts = do
   rest ← behind_word (codes "op") ts
   behind_word name rest
 
--- the rule of this name
-unfoldable pub rule_at : List ℕ → List Token → Option (Rule × List Token)
-rule_at name ts = do
-  rest ← behind_head name ts
-  fields ← fields_at rest
-  syntax ← attribute_at (codes "syntax") fields.0 fields.1
-  image ← attribute_at (codes "image") fields.0 syntax.1
-  Some (record { name = name; fields = fields.0; syntax = syntax.0; image = image.0 }, image.1)
-
--- the rules of these names, and nothing behind them
-unfoldable pub rules_at : List (List ℕ) → List Token → Option (List Rule)
-rules_at [] [] = Some []
-rules_at [] (t ∷ ts) = None
-rules_at (name ∷ names) ts = do
-  first ← rule_at name ts
-  others ← rules_at names first.1
-  Some (first.0 ∷ others)
-
 -- `op instruction =`
 unfoldable pub behind_root : List Token → Option (List Token)
 behind_root ts = do
@@ -183,14 +201,3 @@ unfoldable pub names_at : List Token → Option (List (List ℕ) × List Token)
 names_at ts = do
   rest ← behind_root ts
   Some (items_at word_at 124 rest)
-
--- some rules
-abbrev pub described : List Rule → Option Description
-described [] = None
-described (r ∷ rs) = Some (record { rules = r ∷ rs })
-
-unfoldable pub description_at : List Token → Option Description
-description_at ts = do
-  names ← names_at ts
-  rules ← rules_at names.0 names.1
-  described rules

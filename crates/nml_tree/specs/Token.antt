@@ -11,7 +11,7 @@ pub data Token : Type 0 where
   Word : List ℕ → Token  -- a name or a keyword; `opn` is the same token as `op`
   Number : ℕ → Token  -- a decimal number
   Quoted : List ℕ → Token  -- a string, without its quotes
-  Mark : ℕ → Token  -- one of = | ( ) : ,
+  Mark : ℕ → Token  -- one of = | ( ) : , [ ] { } ;
 
 -- a word has at most 64 characters, a string at most 200, and a number is below 2^64
 abbrev pub name_limit : ℕ
@@ -22,7 +22,7 @@ string_limit = 200
 
 -- the marks that a plain description has
 abbrev pub is_mark : ℕ → Bool
-is_mark c = list_any (λ m. c == m) (codes "=|():,")
+is_mark c = list_any (λ m. c == m) (codes "=|():,[]{};")
 
 -- a character of a string: 32 to 126, and no double quote
 abbrev pub is_quoted : ℕ → Bool

@@ -1,15 +1,18 @@
 //! Whether a description is plain.
-ghost use Rattle.std.specs.Prelude.{◌≡◌, ◌≤◌, ◌∷◌, ◌↔◌, map, codes, IfOk, IsTrue, AllPairs};
+ghost use Rattle.std.specs.Prelude.{◌≡◌, ◌≤◌, ◌↔◌, map, IfOk, IsTrue, AllPairs};
 ghost use Rattle.std.specs.List.{IsDistinct, AllByRecursion};
 ghost use Rattle.nk_base.specs.Text.{text_eq};
-ghost use Rattle.nml_tree.specs.Checked.{HasOneWidth};
+ghost use Rattle.nml_tree.specs.Checked.{HasOneWidth, ArePlainRules};
 ghost use Rattle.nml_tree.specs.Description.{description_of, rule_of, field_of};
 ghost use Rattle.nml_tree.specs.IsPlain.{IsPlain, IsRule, AreApart};
 ghost use Rattle.nml_tree.specs.IsPlain as spec;
 
+use crate::check_action::are_actions;
+use crate::check_items::{are_regs, is_port};
+use crate::check_names::names_differ;
 use crate::check_syntax::{first_part, is_syntax};
 use crate::check_word::{are_fields, is_keyword};
-use crate::distinct::{are_apart, are_distinct};
+use crate::distinct::{are_apart, are_distinct, field_names};
 use crate::image::{image_width, is_image, leading_digits};
 use crate::{Plain, PlainField, PlainRule};
 use nk_base::Memory;
@@ -19,11 +22,20 @@ use std::alloc::Global;
 pub fn is_plain(alloc: Global, p: &Plain) -> Result<bool, Memory>
     ensures { IfOk result (λ b. IsTrue b ↔ IsPlain (description_of p.now)) }
 {
-    let rules = p.rules.as_slice();
-    if !are_rules(alloc, rules)? || !has_one_width(rules) {
+    if !are_regs(&p.regs) || !is_port(p) {
         return Ok(false);
     }
-    if !names_differ(alloc, rules)? || !first_parts_differ(alloc, rules)? {
+    if !names_differ(alloc, p)? || !are_actions(alloc, p, &p.rules)? {
+        return Ok(false);
+    }
+    are_plain_rules(alloc, &p.rules)
+}
+
+/// Whether a plain description may have the rules, besides their names and actions.
+fn are_plain_rules(alloc: Global, rules: &[PlainRule]) -> Result<bool, Memory>
+    ensures { IfOk result (λ b. IsTrue b ↔ ArePlainRules (map rule_of rules.now)) }
+{
+    if !are_rules(alloc, rules)? || !has_one_width(rules) || !first_parts_differ(alloc, rules)? {
         return Ok(false);
     }
     leading_apart(alloc, rules)
@@ -53,37 +65,6 @@ fn is_rule(alloc: Global, rule: &PlainRule) -> Result<bool, Memory>
     }
     let names = field_names(alloc, &rule.fields)?;
     are_distinct(alloc, &names)
-}
-
-/// The names of the fields.
-fn field_names(alloc: Global, fields: &[PlainField]) -> Result<Vec<&[u8]>, Memory>
-    ensures { IfOk result (λ v. map (λ x. x.now) v.items ≡ map (λ f. f.name) (map field_of fields.now)) }
-{
-    let mut names = Vec::new(alloc);
-    for field in fields {
-        names.push(field.name.as_bytes())?;
-    }
-    Ok(names)
-}
-
-/// Whether the root and the rules have different names.
-fn names_differ(alloc: Global, rules: &[PlainRule]) -> Result<bool, Memory>
-    ensures { IfOk result (λ b. IsTrue b ↔ IsDistinct text_eq (codes "instruction" ∷ map (λ r. r.name) (map rule_of rules.now))) }
-{
-    let names = rule_names(alloc, rules)?;
-    are_distinct(alloc, &names)
-}
-
-/// The names of the root and of the rules.
-fn rule_names(alloc: Global, rules: &[PlainRule]) -> Result<Vec<&[u8]>, Memory>
-    ensures { IfOk result (λ v. map (λ x. x.now) v.items ≡ codes "instruction" ∷ map (λ r. r.name) (map rule_of rules.now)) }
-{
-    let mut names = Vec::new(alloc);
-    names.push(b"instruction".as_slice())?;
-    for rule in rules {
-        names.push(rule.name.as_bytes())?;
-    }
-    Ok(names)
 }
 
 /// Whether the rules have different first parts.

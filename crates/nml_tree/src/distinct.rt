@@ -1,10 +1,13 @@
 //! Texts that differ, and texts of which none begins another.
-ghost use Rattle.std.specs.Prelude.{◌≡◌, ◌↔◌, map, IsTrue, IfOk, MatchOption, AllPairs};
+ghost use Rattle.std.specs.Prelude.{◌≡◌, ◌↔◌, map, option_map, IsTrue, IfOk, MatchOption, AllPairs};
 ghost use Rattle.std.specs.List.{IsDistinct, AllByRecursion};
 ghost use Rattle.nk_base.specs.Text.{text_eq};
 ghost use Rattle.nml_tree.specs.Checked.{LacksFronts};
+ghost use Rattle.nml_tree.specs.Description.{field_of};
+ghost use Rattle.nml_tree.specs.DescriptionReading as spec;
 ghost use Rattle.nml_tree.specs.IsPlain.{AreApart};
 
+use crate::PlainField;
 use indexmap::IndexSet;
 use nk_base::{Memory, Text};
 use std::alloc::Global;
@@ -39,7 +42,7 @@ fn lack_fronts(alloc: Global, set: &IndexSet<Text>, texts: &[&[u8]]) -> Result<b
 }
 
 /// The texts as a set; `None` where two are the same.
-fn set_of(alloc: Global, texts: &[&[u8]]) -> Result<Option<IndexSet<Text>>, Memory>
+pub fn set_of(alloc: Global, texts: &[&[u8]]) -> Result<Option<IndexSet<Text>>, Memory>
     ensures { IfOk result (λ o. MatchOption o (IsDistinct text_eq (map (λ x. x.now) texts.now) → ⊥)
         (λ s. IsDistinct text_eq s.keys × (s.keys ≡ map (λ x. x.now) texts.now))) }
 {
@@ -50,6 +53,25 @@ fn set_of(alloc: Global, texts: &[&[u8]]) -> Result<Option<IndexSet<Text>>, Memo
         }
     }
     Ok(Some(set))
+}
+
+/// The names of the fields as a set; `None` where two are the same.
+pub fn names_of(alloc: Global, fields: &[PlainField]) -> Result<Option<IndexSet<Text>>, Memory>
+    ensures { IfOk result (λ o. option_map (λ s. s.keys) o ≡ spec.names_of (map field_of fields.now)) }
+{
+    let names = field_names(alloc, fields)?;
+    set_of(alloc, &names)
+}
+
+/// The names of the fields.
+pub fn field_names(alloc: Global, fields: &[PlainField]) -> Result<Vec<&[u8]>, Memory>
+    ensures { IfOk result (λ v. map (λ x. x.now) v.items ≡ map (λ f. f.name) (map field_of fields.now)) }
+{
+    let mut names = Vec::new(alloc);
+    for field in fields {
+        names.push(field.name.as_bytes())?;
+    }
+    Ok(names)
 }
 
 /// Whether the text doesn't begin with one of the set, short of the whole.

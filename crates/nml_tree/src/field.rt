@@ -63,7 +63,7 @@ fn field<'t, 'a>(tokens: &'t [Token<'a>]) -> Option<(&'a [u8], Ty, &'t [Token<'a
 
 /// `card(n)` or `int(n)`.
 #[tactic(auto, unfolding(crate::specs::Reading::type_at))]
-fn field_type<'t, 'a>(tokens: &'t [Token<'a>]) -> Option<(Ty, &'t [Token<'a>])>
+pub fn field_type<'t, 'a>(tokens: &'t [Token<'a>]) -> Option<(Ty, &'t [Token<'a>])>
     ensures reads { option_map (λ x. (x.0, map seen x.1.now)) result ≡ type_at (map seen tokens.now) }
     ensures shorter { IfSome result (λ x. length x.1.now < length tokens.now) }
 {

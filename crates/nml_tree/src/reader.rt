@@ -1,35 +1,60 @@
 ghost use Rattle.std.specs.Prelude.{◌≡◌, ◌<◌, List, length, map, option_map, IfOk, IfSome, MatchOption};
-ghost use Rattle.nml_tree.specs.Description.{Description, description_of};
-ghost use Rattle.nml_tree.specs.ReadAs.{IsReadable};
-ghost use Rattle.nml_tree.specs.Reading.{item_in, word_at, behind_root, names_at, description_at};
+ghost use Rattle.nml_tree.specs.Description.{Description, field_of, rule_of, description_of};
+ghost use Rattle.nml_tree.specs.DescriptionReading.{rooted_at, description_at};
+ghost use Rattle.nml_tree.specs.IsPlain.{IsPlain};
+ghost use Rattle.nml_tree.specs.Reading.{item_in, word_at, behind_root, names_at};
 ghost use Rattle.nml_tree.specs.Seen.{seen};
 ghost use Rattle.nml_tree.specs.Spelling.{IsSpelling};
 ghost use Rattle.nml_tree.specs.Token as spec;
 
-use crate::Plain;
+use crate::distinct::names_of;
 use crate::front::{after_mark, word};
 use crate::rule::{after_head, rule};
+use crate::storage::{port, registers};
 use crate::token::Token;
-use nk_base::Memory;
+use crate::{Plain, PlainField, PlainRule};
+use indexmap::IndexSet;
+use nk_base::{Memory, Text};
 use std::alloc::Global;
 
 /// The description that the tokens spell; `None` exactly where they spell none.
 pub fn read(alloc: Global, tokens: &[Token<'_>]) -> Result<Option<Plain>, Memory>
-    ensures { IfOk result (λ o. MatchOption o ((d : Description) → IsReadable d → IsSpelling d (map seen tokens.now) → ⊥) (λ p. IsReadable (description_of p) × IsSpelling (description_of p) (map seen tokens.now))) }
+    ensures { IfOk result (λ o. MatchOption o ((d : Description) → IsPlain d → IsSpelling d (map seen tokens.now) → ⊥) (λ p. IsSpelling (description_of p) (map seen tokens.now) × ((d : Description) → IsPlain d → IsSpelling d (map seen tokens.now) → d ≡ description_of p))) }
 {
     description(alloc, tokens)
 }
 
-/// The root with the names of its alternatives, a rule for each name, and nothing behind them.
+/// The registers and the port, and behind them the root and its rules.
+#[tactic(auto, unfolding(crate::specs::DescriptionReading::description_at))]
 fn description(alloc: Global, tokens: &[Token<'_>]) -> Result<Option<Plain>, Memory>
     ensures { IfOk result (λ o. option_map description_of o ≡ description_at (map seen tokens.now)) }
+{
+    let (regs, rest) = registers(alloc, tokens)?;
+    let (out, rest) = port(alloc, rest)?;
+    let Some(names) = names_of(alloc, &regs)? else {
+        return Ok(None);
+    };
+    let Some(rules) = rules(alloc, &names, &out, rest)? else {
+        return Ok(None);
+    };
+    Ok(Some(Plain { regs, out, rules }))
+}
+
+/// The root with the names of its alternatives, a rule for each name, and nothing behind them.
+fn rules(
+    alloc: Global,
+    regs: &IndexSet<Text>,
+    out: &Option<PlainField>,
+    tokens: &[Token<'_>],
+) -> Result<Option<Vec<PlainRule>>, Memory>
+    ensures { IfOk result (λ o. option_map (λ rules. map rule_of rules.items) o ≡ rooted_at regs.now.keys (option_map field_of out.now) (map seen tokens.now)) }
 {
     let Some((names, mut rest)) = names(alloc, tokens)? else {
         return Ok(None);
     };
     let mut rules = Vec::new(alloc);
     for name in &names {
-        let Some((rule, after)) = rule(alloc, name, rest)? else {
+        let Some((rule, after)) = rule(alloc, regs, out, name, rest)? else {
             return Ok(None);
         };
         rules.push(rule)?;
@@ -38,7 +63,7 @@ fn description(alloc: Global, tokens: &[Token<'_>]) -> Result<Option<Plain>, Mem
     if rules.is_empty() || !rest.is_empty() {
         return Ok(None);
     }
-    Ok(Some(Plain { rules }))
+    Ok(Some(rules))
 }
 
 /// The names of the alternatives of `instruction`, behind its head.
@@ -80,7 +105,7 @@ fn after_root<'t, 'a>(tokens: &'t [Token<'a>]) -> Option<&'t [Token<'a>]>
     after_mark(b'=', after_head(b"instruction", tokens)?)
 }
 
-/// A law: no tokens spell two descriptions. The spelling is this project's own.
+/// A law: no tokens spell two plain descriptions. The spelling is this project's own.
 pub fn one_spelling()
-    ensures { (tokens : List spec.Token) (d e : Description) → IsReadable d → IsReadable e → IsSpelling d tokens → IsSpelling e tokens → d ≡ e }
+    ensures { (tokens : List spec.Token) (d e : Description) → IsPlain d → IsPlain e → IsSpelling d tokens → IsSpelling e tokens → d ≡ e }
 {}

@@ -3,28 +3,37 @@
 ghost use Rattle.std.specs.Prelude.{◌≡◌, map, option_map, IfOk};
 ghost use Rattle.nml_tree.specs.Description.{field_of, rule_of};
 ghost use Rattle.nml_tree.specs.Seen.{seen};
-ghost use Rattle.nml_tree.specs.Reading.{format_at, text_at, attribute_at, behind_head, rule_at};
+ghost use Rattle.nml_tree.specs.Reading.{format_at, text_at, attribute_at, behind_head};
+ghost use Rattle.nml_tree.specs.DescriptionReading.{rule_at};
 
+use crate::action::action;
+use crate::distinct::names_of;
 use crate::field::fields;
 use crate::front::{after_mark, after_word, quoted};
 use crate::token::Token;
 use crate::{PlainField, PlainRule};
+use indexmap::IndexSet;
 use nk_base::{Memory, Text};
 use std::alloc::Global;
 
-/// The rule of this name.
-#[tactic(auto, unfolding(crate::specs::Reading::rule_at))]
+/// The rule of this name, over registers of these names and this port.
+#[tactic(auto, unfolding(crate::specs::DescriptionReading::rule_at))]
 pub fn rule<'t, 'a>(
     alloc: Global,
+    regs: &IndexSet<Text>,
+    out: &Option<PlainField>,
     name: &[u8],
     tokens: &'t [Token<'a>],
 ) -> Result<Option<(PlainRule, &'t [Token<'a>])>, Memory>
-    ensures { IfOk result (λ o. option_map (λ x. (rule_of x.0, map seen x.1.now)) o ≡ rule_at name.now (map seen tokens.now)) }
+    ensures { IfOk result (λ o. option_map (λ x. (rule_of x.0, map seen x.1.now)) o ≡ rule_at regs.now.keys (option_map field_of out.now) name.now (map seen tokens.now)) }
 {
     let Some(rest) = after_head(name, tokens) else {
         return Ok(None);
     };
     let Some((fields, rest)) = fields(alloc, rest)? else {
+        return Ok(None);
+    };
+    let Some(names) = names_of(alloc, &fields)? else {
         return Ok(None);
     };
     let Some((syntax, rest)) = attribute(b"syntax", &fields, rest) else {
@@ -33,11 +42,15 @@ pub fn rule<'t, 'a>(
     let Some((image, rest)) = attribute(b"image", &fields, rest) else {
         return Ok(None);
     };
+    let Some((action, rest)) = action(alloc, regs, out, &names, rest)? else {
+        return Ok(None);
+    };
     let rule = PlainRule {
         name: Text::from_bytes(alloc, name)?,
         fields,
         syntax: Text::from_bytes(alloc, syntax)?,
         image: Text::from_bytes(alloc, image)?,
+        action,
     };
     Ok(Some((rule, rest)))
 }

@@ -19,7 +19,10 @@ fn is_quoted(c: u8) -> bool
 pub fn is_mark(c: u8) -> bool
     ensures { result ≡ spec.is_mark c }
 {
-    matches!(c, b'=' | b'|' | b'(' | b')' | b':' | b',')
+    matches!(
+        c,
+        b'=' | b'|' | b'(' | b')' | b':' | b',' | b'[' | b']' | b'{' | b'}' | b';'
+    )
 }
 
 /// How many blanks and line ends are at the front.

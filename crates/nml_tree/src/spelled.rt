@@ -37,7 +37,7 @@ pub fn one_description()
 #[cfg(test)]
 mod tests {
     use super::plain;
-    use crate::word_bits;
+    use crate::{Plain, word_bits};
     use std::test::Fail;
 
     /// A machine of three instructions.
@@ -47,20 +47,69 @@ op outa() syntax = \"outa\" image = \"1000000000\"
 op hlt(k: card(2)) syntax = format(\"hlt %d\", k) image = format(\"00000000%2b\", k)
 ";
 
-    /// How many rules a text has, and how many bits their words.
+    /// The machine with registers, a port and actions.
+    const RUNNING: &[u8] = b"reg PC[1, card(4)] reg A[1, int(8)] out OUT[int(8)]
+op instruction = ldi | outa | hlt
+op ldi(n: int(8)) syntax = format(\"ldi %d\", n) image = format(\"01%8b\", n) action = { A = n; }
+op outa() syntax = \"outa\" image = \"1000000000\" action = { OUT = A; }
+op hlt(k: card(2)) syntax = format(\"hlt %d\", k) image = format(\"00000000%2b\", k) action = { halt(k); }
+";
+
+    /// The running machine with a register twice.
+    const TWO_REGS: &[u8] = b"reg PC[1, card(4)] reg A[1, int(8)] reg A[1, int(8)] out OUT[int(8)]
+op instruction = ldi | outa | hlt
+op ldi(n: int(8)) syntax = format(\"ldi %d\", n) image = format(\"01%8b\", n) action = { A = n; }
+op outa() syntax = \"outa\" image = \"1000000000\" action = { OUT = A; }
+op hlt(k: card(2)) syntax = format(\"hlt %d\", k) image = format(\"00000000%2b\", k) action = { halt(k); }
+";
+
+    /// The running machine with a field that is named as a register.
+    const FIELD_AS_REG: &[u8] = b"reg PC[1, card(4)] reg A[1, int(8)] out OUT[int(8)]
+op instruction = ldi | outa | hlt
+op ldi(A: int(8)) syntax = format(\"ldi %d\", A) image = format(\"01%8b\", A) action = { A = A; }
+op outa() syntax = \"outa\" image = \"1000000000\" action = { OUT = A; }
+op hlt(k: card(2)) syntax = format(\"hlt %d\", k) image = format(\"00000000%2b\", k) action = { halt(k); }
+";
+
+    /// The running machine with a place twice in one action.
+    const TWO_WRITES: &[u8] = b"reg PC[1, card(4)] reg A[1, int(8)] out OUT[int(8)]
+op instruction = ldi | outa | hlt
+op ldi(n: int(8)) syntax = format(\"ldi %d\", n) image = format(\"01%8b\", n) action = { A = n; A = n; }
+op outa() syntax = \"outa\" image = \"1000000000\" action = { OUT = A; }
+op hlt(k: card(2)) syntax = format(\"hlt %d\", k) image = format(\"00000000%2b\", k) action = { halt(k); }
+";
+
+    /// How many rules a text has, and how many bits their words; how many registers, how many actions of one statement, and
+    /// whether a port.
     #[test]
     fn plain_answers(rt: HostRuntime) -> Result<(), Fail> {
         let rows = [
-            (MACHINE, Some((3, 10))),
+            (MACHINE, Some((3, 10, 0, 0, false))),
+            (RUNNING, Some((3, 10, 2, 3, true))),
+            (TWO_REGS, None),
+            (FIELD_AS_REG, None),
+            (TWO_WRITES, None),
             (b"op instruction = a".as_slice(), None),
+            (b"reg PC[2, card(4)]".as_slice(), None),
         ];
         for (text, want) in rows {
             let seen = match plain(rt.alloc(), text)? {
-                Some(found) => Some((found.rules.len(), word_bits(&found))),
+                Some(found) => Some((
+                    found.rules.len(),
+                    word_bits(&found),
+                    found.regs.len(),
+                    stmts(&found),
+                    found.out.is_some(),
+                )),
                 None => None,
             };
             assert_eq!(rt; seen, want);
         }
         Ok(())
+    }
+
+    /// How many rules have an action of one statement.
+    fn stmts(p: &Plain) -> usize {
+        p.rules.iter().filter(|rule| rule.action.len() == 1).count()
     }
 }

@@ -12,7 +12,7 @@ push_word-requires-clause-line c =
 pub returns-then-not-branch : goal.returns-then-not-branch
 returns-then-not-branch c = record {
   answer = (
-    sym c.if-not-is_plain_text.ensures,
+    sym c.if-not-is_fit.ensures,
     fails_here (description_of c.args.p.now) c.args.text.now c.loop-rest.number c.loop-rest.rest c.in-Some.left c.loop-rest.words.items
         c.first_line.result.0.now c.first_line.result.1 c.in-Some.is c.loop-rest.invariant c.first_line.ensures
         (MatchBool-at_false _ _ c.if-not-branch.true c.in_ok-push_word.ensures),

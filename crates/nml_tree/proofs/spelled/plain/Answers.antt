@@ -4,7 +4,6 @@ use Rattle.std.proofs.lemmas.Bool.{false≢true}
 use Rattle.nml_tree.specs.Description.{description_of}
 use Rattle.nml_tree.specs.Seen.{seen}
 use Rattle.nml_tree.proofs.Reading.{unread, not_plain}
-use Rattle.nml_tree.proofs.Unique.{one_spelling_holds}
 use Rattle.nml_tree.proofs.spelled.plain.Goals as goal
 
 pub returns-in_default-2 : goal.returns-in_default-2
@@ -18,4 +17,4 @@ returns c =
     let has = rw c.in-Some.is at c.in_ok-tokens.ensures in
     let found = rw (c.in-Some-2.is, c.deref.ensures.value) at c.in_ok-found.ensures in
     let told = rw c.if-branch.false at c.in_ok-is_plain.ensures in
-    not_plain one_spelling_holds c.args.bytes.now (map seen c.in-Some.tokens.items) (description_of c.in-Some-2.found) has found.0 found.1 (λ p. false≢true (told.1 p))
+    not_plain c.args.bytes.now (map seen c.in-Some.tokens.items) (description_of c.in-Some-2.found) has found.1 (λ p. false≢true (told.1 p))

@@ -1,7 +1,7 @@
 use Rattle.asm_tool.specs.FirstLine.{is_no_feed}
 use Rattle.asm_tool.proofs.LineTokens.{longest}
 use Rattle.asm_tool.proofs.Lines.{feed_first, no_feed_left}
-use Rattle.asm_tool.proofs.plain.first_line.Goals as goal
+use Rattle.asm_tool.proofs.first_line.first_line.Goals as goal
 
 pub returns-in-Some : goal.returns-in-Some
 returns-in-Some c =

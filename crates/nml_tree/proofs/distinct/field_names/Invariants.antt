@@ -1,6 +1,6 @@
 use Rattle.std.proofs.Common.{◌≡◌, map, take}
 use Rattle.nml_tree.specs.Description.{field_of}
-use Rattle.nml_tree.proofs.check.field_names.Given as goal
+use Rattle.nml_tree.proofs.distinct.field_names.Given as goal
 
 -- those so far
 abbrev pub invariant-loop-field : goal.invariant-loop-field
