@@ -1,0 +1,9 @@
+pub mod Bits
+pub mod Image
+pub mod OneDerivation
+pub mod Steps
+pub mod Sound
+pub mod Searches
+pub mod Registers
+pub mod Actions
+pub mod Runs
