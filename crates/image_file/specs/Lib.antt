@@ -1,0 +1,4 @@
+pub mod File
+pub mod Seen
+pub mod Parts
+pub mod Sample
