@@ -1,0 +1,10 @@
+ghost use Rattle.std.specs.Prelude.{◌≡◌, ℕ, List};
+ghost use Rattle.bit_sim.specs.Machine.{Machine, Outcome, Runs};
+ghost use Rattle.nml_tree.specs.Description.{Description};
+ghost use Rattle.nml_tree.specs.IsPlain.{IsPlain};
+
+/// A law: for each bound, a machine of a plain description has at most one outcome.
+#[tactic(auto, using(crate::proofs::OneRun::one_run))]
+pub fn one_run()
+    ensures { (d : Description) (words : List ℕ) (steps : ℕ) (m : Machine) (a b : Outcome) → IsPlain d → Runs d words steps m a → Runs d words steps m b → a ≡ b }
+{}
