@@ -1,5 +1,7 @@
--- A machine has one next step, and a run one outcome.
-use Rattle.std.proofs.Common.{◌≡◌, ℕ, suc, zero, List, ap, sym, ◌∙◌, subst, false, ℤ, Option, Some, None}
+-- A machine has one next step, a run one outcome, and a longer run goes on from a shorter one.
+use Rattle.std.proofs.Common.{◌≡◌, ◌+◌, ◌++◌, ℕ, suc, zero, List, arith, ap, sym, ◌∙◌, subst, false, ℤ, Option, Some, None}
+use Rattle.std.specs.Option.{option_to_list}
+use Rattle.std.proofs.lemmas.List.{append_assoc}
 use Rattle.nml_tree.specs.Cells.{Shown, Kept}
 use Rattle.nml_tree.specs.Description.{Description, Rule}
 use Rattle.nml_tree.specs.Effect.{Effect, effect, after, IsWordOf}
@@ -8,7 +10,7 @@ use Rattle.nml_tree.specs.declared.state.Exec.{Exec}
 use Rattle.nml_tree.specs.declared.state.Exec.TheVariants as execs
 use Rattle.attr_eval.specs.Ran.{HasRun, IsNoWord, effect_of}
 use Rattle.attr_eval.proofs.OneDerivation.{one_derivation}
-use Rattle.bit_sim.specs.Machine.{Machine, Outcome, Ran, ByWord, NoWord, BadWord, Follows, IsStep, Runs, StepBy, put_before, ran}
+use Rattle.bit_sim.specs.Machine.{Machine, Outcome, GoesOn, Stopped, Further, Ran, ByWord, NoWord, BadWord, Follows, IsStep, Runs, StepBy, put_before, ran}
 use Rattle.bit_sim.specs.declared.step.Step.{Step}
 use Rattle.bit_sim.specs.declared.step.Step.TheVariants as steps
 
@@ -80,3 +82,29 @@ one_run d words (suc n) m a b p (s, x, h, f) (t, y, k, g) =
     let one = one_step d words m x y s t p h k in
     let e : Follows (Runs d words n) x s b = subst (λ u. Follows (Runs d words n) x u b) (sym one.1) (subst (λ u. Follows (Runs d words n) u t b) (sym one.0) g) in
     one_rest (Runs d words n) (λ q v w i j. one_run d words n q v w p i j) x s a b f e
+
+put_on : (o : Option ℤ) (x y : Outcome) → GoesOn x y → GoesOn (put_before o x) (put_before o y)
+put_on o x y (Stopped e) = Stopped (ap (put_before o) e)
+put_on o x y (Further s more e) = Further s more (ap (λ z. option_to_list o ++ z) e ∙ sym (append_assoc (option_to_list o) x.out more))
+
+rest_on : (short long : Machine → Outcome → Type 0) → ((m : Machine) (x y : Outcome) → short m x → long m y → GoesOn x y) → (new : Machine) (step : Step) (a b : Outcome) → Follows short new step a → Follows long new step b → GoesOn a b
+rest_on short long on new (steps.Went out took) a b (x, r, e) (y, z, f) = subst (λ u. GoesOn u b) (sym e) (subst (GoesOn (put_before out x)) (sym f) (put_on out x y (on new x y r z)))
+rest_on short long on new steps.Wants a b h k = absurd h
+rest_on short long on new (steps.Halted code out took) a b h k = Stopped (h ∙ sym k)
+rest_on short long on new (steps.NoWord place) a b h k = Stopped (h ∙ sym k)
+rest_on short long on new (steps.BadWord place) a b h k = Stopped (h ∙ sym k)
+
+-- one step of both
+both_on : (d : Description) (words : List ℕ) (n l : ℕ) (m : Machine) (a b : Outcome) → IsPlain d → ((q : Machine) (x y : Outcome) → Runs d words n q x → Runs d words l q y → GoesOn x y)
+    → Runs d words (suc n) m a → Runs d words (suc l) m b → GoesOn a b
+both_on d words n l m a b p on (s, x, h, f) (t, y, k, g) =
+    let one = one_step d words m x y s t p h k in
+    let e : Follows (Runs d words l) x s b = subst (λ u. Follows (Runs d words l) x u b) (sym one.1) (subst (λ u. Follows (Runs d words l) u t b) (sym one.0) g) in
+    rest_on (Runs d words n) (Runs d words l) on x s a b f e
+
+-- a longer run goes on from a shorter one
+pub longer_run : (d : Description) (words : List ℕ) (n more : ℕ) (m : Machine) (a b : Outcome) → IsPlain d → Runs d words n m a → Runs d words (n + more) m b → GoesOn a b
+longer_run d words zero more m a b p h k = Further (ap (λ o. o.stop) h) b.out (ap (λ o. o.out ++ b.out) (sym h))
+longer_run d words (suc n) more m a b p h k =
+    let e : suc n + more ≡ suc (n + more) = omega arith in
+    both_on d words n (n + more) m a b p (λ q x y i j. longer_run d words n more q x y p i j) h (subst (λ l. Runs d words l m b) e k)

@@ -65,6 +65,11 @@ abbrev pub Runs : Description → List ℕ → ℕ → Machine → Outcome → T
 Runs d words zero m o = o ≡ record { out = []; stop = Running }
 Runs d words (suc n) m o = (step : Step) × (new : Machine) × IsStep d words m new step × Follows (Runs d words n) new step o
 
+-- Of one machine's outcomes, the second is that of a longer run: a run that had stopped has the same one, else as much was put out and perhaps more.
+pub data GoesOn (a b : Outcome) : Type 0 where
+  Stopped : a ≡ b → GoesOn a b
+  Further : a.stop ≡ Running → (more : List ℤ) → b.out ≡ a.out ++ more → GoesOn a b
+
 -- a simulator: the description, the words of the image, and the machine
 pub record Simulator : Type 0 where
   pub description : Description

@@ -1,5 +1,5 @@
-ghost use Rattle.std.specs.Prelude.{◌≡◌, ℕ, List};
-ghost use Rattle.bit_sim.specs.Machine.{Machine, Outcome, Runs};
+ghost use Rattle.std.specs.Prelude.{◌≡◌, ◌+◌, ℕ, List};
+ghost use Rattle.bit_sim.specs.Machine.{GoesOn, Machine, Outcome, Runs};
 ghost use Rattle.nml_tree.specs.Description.{Description};
 ghost use Rattle.nml_tree.specs.IsPlain.{IsPlain};
 
@@ -7,4 +7,10 @@ ghost use Rattle.nml_tree.specs.IsPlain.{IsPlain};
 #[tactic(auto, using(crate::proofs::OneRun::one_run))]
 pub fn one_run()
     ensures { (d : Description) (words : List ℕ) (steps : ℕ) (m : Machine) (a b : Outcome) → IsPlain d → Runs d words steps m a → Runs d words steps m b → a ≡ b }
+{}
+
+/// A law: a longer run goes on from a shorter one. Where the shorter has stopped, both have one outcome; else the longer puts out as much and
+/// perhaps more.
+pub fn longer_run()
+    ensures { (d : Description) (words : List ℕ) (steps more : ℕ) (m : Machine) (a b : Outcome) → IsPlain d → Runs d words steps m a → Runs d words (steps + more) m b → GoesOn a b }
 {}
