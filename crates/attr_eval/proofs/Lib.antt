@@ -7,3 +7,4 @@ pub mod Searches
 pub mod Registers
 pub mod Actions
 pub mod Runs
+pub mod Decided

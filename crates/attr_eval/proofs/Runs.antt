@@ -57,16 +57,16 @@ rule_for p width word rule h e b f =
       reading = record { image = r.image_is; fields = r.fields_are; width_is = e ∙ sym w; narrow = omega (arith, e, h.narrow); small = small_word width word (omega (arith, e, h.narrow)) b };
     }
 
-pub none_missed : (p : Plain) (word : ℕ) → IsPlain (description_of p) → AreMissed word p.rules.items → IsNoWord (description_of p) word
-none_missed p word h m by is =
-    let d : Description = description_of p in
+-- a word that no rule's fixed characters are in is no instruction
+pub none_missed : (d : Description) (word : ℕ) → IsPlain d → AllByRecursion (IsMissed word) d.rules → IsNoWord d word
+none_missed d word h m by is =
     let x = word_of d word by h is in
     let y : agrees (pieces by.rule.image) word ≡ false = in_all (IsMissed word) d.rules by.rule m by.among in
     absurd (cc (x.agree, y))
 
-pub none_above : (p : Plain) (width word : ℕ) → IsPlain (description_of p) → width ≡ word_width (description_of p).rules → 2 ^ width ≤ word → IsNoWord (description_of p) word
-none_above p width word h e b by is =
-    let d : Description = description_of p in
+-- nor is one that has more bits than an image
+pub none_above : (d : Description) (width word : ℕ) → IsPlain d → width ≡ word_width d.rules → 2 ^ width ≤ word → IsNoWord d word
+none_above d width word h e b by is =
     let r = in_all IsRule d.rules by.rule h.rules_are by.among in
     let s = number_small (pieces by.rule.image) by.rule.fields by.numbers r.image_is by.fill in
     let w : bits_in (pieces by.rule.image) ≡ width = width_is d by h ∙ sym e in
@@ -162,7 +162,7 @@ pc_open p width word rule old mid o h r k a =
 -- what is found among the rules, as an instruction
 pub rule_found : {R : Type 0} (p : Plain) (width word : ℕ) (now : R → PlainRule) (found : Option R) → IsPlain (description_of p) → width ≡ word_width (description_of p).rules → word < 2 ^ width
     → MatchOption found (AreMissed word p.rules.items) (λ r. IsFound p.rules.items word (now r)) → MatchOption found (IsNoWord (description_of p) word) (λ r. IsRuleFor p (now r) width word)
-rule_found p width word now None h e b m = none_missed p word h m
+rule_found p width word now None h e b m = none_missed (description_of p) word h m
 rule_found p width word now (Some r) h e b m = rule_for p width word (now r) h e b m
 
 pub finish_is : (regs : List Field) (s mid new : Shown) (z : ℤ) → new ≡ record { cells = committed mid.cells mid.kept; kept = [] } → mid ≡ record s { kept = s.kept ++ record { cell = 0; value = z } ∷ [] }

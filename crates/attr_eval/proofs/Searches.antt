@@ -16,7 +16,7 @@ pub record Searched (rules rest : List PlainRule) (width word : ℕ) : Type 0 wh
 pub searched_first : (rules : List PlainRule) (width word : ℕ) → AreRules rules width → Searched rules rules width word
 searched_first rules width word h = record { right = h; missed = λ x. x; among = λ x y. y }
 
-behind : (xs : List Rule) (r x : Rule) → Contains xs x → Contains (r ∷ xs) x
+pub behind : (xs : List Rule) (r x : Rule) → Contains xs x → Contains (r ∷ xs) x
 behind xs r x (k, h, e) = (suc k, omega arith, e)
 
 searched_at : (rules : List PlainRule) (rule : PlainRule) (tail : List PlainRule) (width word : ℕ) → Searched rules (rule ∷ tail) width word → agrees (pieces rule.image) word ≡ false → Searched rules tail width word

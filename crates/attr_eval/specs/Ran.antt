@@ -1,5 +1,5 @@
 -- What running a word on a state comes to.
-use Rattle.std.specs.Prelude.{◌≡◌, ℕ, false, List, [], Option, Some, None}
+use Rattle.std.specs.Prelude.{◌≡◌, ℕ, false, []}
 use Rattle.nml_tree.specs.Cells.{Shown}
 use Rattle.nml_tree.specs.Description.{Description}
 use Rattle.nml_tree.specs.Effect.{Effect, effect, after, IsWordOf}

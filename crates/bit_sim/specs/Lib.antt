@@ -1,2 +1,2 @@
 pub mod Machine
-mod Sample
+pub mod Sample

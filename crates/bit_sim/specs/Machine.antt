@@ -1,5 +1,5 @@
 -- The machine of a plain description: one step, and runs of so many steps.
-use Rattle.std.specs.Prelude.{◌≡◌, ℕ, zero, suc, false, List, [], ◌++◌, Option, Some, None, ℤ, unsigned_abs, slice_get}
+use Rattle.std.specs.Prelude.{◌≡◌, ℕ, zero, suc, false, List, [], ◌++◌, Option, Some, None, ℤ, pos, unsigned_abs, slice_get, length, replicate}
 use Rattle.std.specs.Option.{option_to_list}
 use Rattle.nml_tree.specs.Description.{Description}
 use Rattle.nml_tree.specs.Cells.{Shown}
@@ -13,6 +13,10 @@ use Rattle.bit_sim.specs.declared.step.Step.TheVariants as steps
 pub record Machine : Type 0 where
   pub state : Shown
   pub halted : Option ℕ
+
+-- the machine at its beginning: each register is 0
+abbrev pub beginning : Description → Machine
+beginning d = record { state = record { cells = replicate (length d.regs) (pos 0); kept = [] }; halted = None }
 
 -- where the next word is looked for
 abbrev pub pc : Machine → ℕ

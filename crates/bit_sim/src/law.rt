@@ -3,6 +3,11 @@ ghost use Rattle.bit_sim.specs.Machine.{GoesOn, Machine, Outcome, Runs};
 ghost use Rattle.nml_tree.specs.Description.{Description};
 ghost use Rattle.nml_tree.specs.IsPlain.{IsPlain};
 
+/// A law: for each bound, a machine of a plain description has an outcome.
+pub fn has_outcome()
+    ensures { (d : Description) (words : List ℕ) (steps : ℕ) (m : Machine) → IsPlain d → (o : Outcome) × Runs d words steps m o }
+{}
+
 /// A law: for each bound, a machine of a plain description has at most one outcome.
 #[tactic(auto, using(crate::proofs::OneRun::one_run))]
 pub fn one_run()

@@ -7,6 +7,6 @@ mod step;
 #[cfg(test)]
 mod tests;
 
-pub use law::{longer_run, one_run};
+pub use law::{has_outcome, longer_run, one_run};
 pub use plain::PlainSim;
 pub use step::Step;

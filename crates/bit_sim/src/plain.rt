@@ -1,5 +1,5 @@
 ghost use Rattle.std.specs.Prelude.{◌≡◌, ◌<◌, [], length, IfOk, None, replicate, pos, slice_get, unsigned_abs};
-ghost use Rattle.bit_sim.specs.Machine.{IsStep, ran};
+ghost use Rattle.bit_sim.specs.Machine.{IsStep, beginning, ran};
 ghost use Rattle.nml_tree.specs.Description.{description_of};
 ghost use Rattle.nml_tree.specs.Effect.{AreCells, number_at};
 ghost use Rattle.nml_tree.specs.IsPlain.{AreRegs, IsPlain};
@@ -44,7 +44,7 @@ impl<'a> PlainSim<'a> {
         requires pc { 0 < length p.now.regs.items }
         ensures description { IfOk result (λ s. s.description ≡ description_of p.now) }
         ensures words { IfOk result (λ s. s.words ≡ i.now.words.items) }
-        ensures machine { IfOk result (λ s. s.machine ≡ record { state = record { cells = replicate (length p.now.regs.items) (pos 0); kept = [] }; halted = None }) }
+        ensures machine { IfOk result (λ s. s.machine ≡ beginning (description_of p.now)) }
     {
         let state = State::plain(alloc, p)?;
         Ok(PlainSim {

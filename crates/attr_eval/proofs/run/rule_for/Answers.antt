@@ -1,10 +1,11 @@
 use Rattle.std.proofs.Common.{sym, subst}
 use Rattle.attr_eval.specs.Doing.{AreRules}
+use Rattle.nml_tree.specs.Description.{description_of}
 use Rattle.attr_eval.proofs.Runs.{right_rules, rule_found, none_above}
 use Rattle.attr_eval.proofs.run.rule_for.Goals as goal
 
 pub returns-then-not-is_below : goal.returns-then-not-is_below
-returns-then-not-is_below c = none_above c.args.p.now c.args.width c.args.word c.requires.plain c.requires.width c.if-not-is_below.ensures
+returns-then-not-is_below c = none_above (description_of c.args.p.now) c.args.width c.args.word c.requires.plain c.requires.width c.if-not-is_below.ensures
 
 pub find-requires : goal.find-requires
 find-requires c = subst (λ rules. AreRules rules c.args.width) (sym c.as_slice.ensures.value) (right_rules c.args.p.now c.args.width c.requires.plain c.requires.width)
