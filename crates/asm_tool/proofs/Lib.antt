@@ -9,3 +9,4 @@ pub mod ImageWord
 pub mod MatchSteps
 pub mod FirstParts
 pub mod Lookup
+pub mod AssembledWords

@@ -1,36 +1,36 @@
--- The rules without actions, in memory and without it.
-use Rattle.std.proofs.Common.{◌≡◌, List, [], ◌∷◌, map, length, ap, refl, ℕ, sym, ◌∙◌, subst}
-use Rattle.std.specs.Prelude.{nat_eq, ◌&&◌, Bool, true, false, IsTrue, IsFalse, Option, Some, None, is_none, Result, Ok, Err}
+-- Which descriptions are built: their rules and ports in memory and without it, and what bytes spell where theirs isn't built.
+use Rattle.std.proofs.Common.{inr, ◌≡◌, List, ℕ, [], ◌∷◌, map, length, ap, refl, sym, subst, ◌∙◌}
+use Rattle.std.specs.Prelude.{nat_eq, ◌&&◌, IsTrue, IsFalse, Option, Some, None, is_none, Result, Ok, Err, IfOk, IfErr}
+use Rattle.std.proofs.lemmas.Bool.{false≢true}
 use Rattle.std.specs.Option.{option_map}
 use Rattle.std.specs.List.{list_all}
-use Rattle.nml_tree.specs.Description.{Description, rule_of, field_of, description_of}
+use Rattle.nml_tree.specs.Description.{rule_of, field_of, description_of}
 use Rattle.nml_tree.specs.ReadAs.{ReadsAs}
 use Rattle.nml_tree.specs.declared.rules.Plain.{Plain}
-use Rattle.nml_suite.specs.Outcome.{Describes, is_built}
-use Rattle.nml_suite.specs.Refused.{IsBuilt, IsDescribed}
-use Rattle.nml_suite.specs.declared.refusal.Refusal.{Refusal}
-use Rattle.nml_suite.specs.declared.refusal.Refusal.TheVariants as refusals
 use Rattle.nml_tree.specs.declared.rules.PlainField.{PlainField}
 use Rattle.nml_tree.specs.declared.rules.PlainRule.{PlainRule}
+use Rattle.nml_tree.proofs.OneDescription.{one_description_holds}
+use Rattle.nml_suite.specs.Coming.{is_built}
+use Rattle.nml_suite.specs.Outcome.{not_built_file}
+use Rattle.nml_suite.specs.Refused.{IsDescribed, refused}
+use Rattle.nml_suite.specs.declared.purpose.Purpose.{Purpose}
+use Rattle.nml_suite.specs.declared.refusal.Refusal.{Refusal}
 
+-- rules without actions are so in memory too
 pub all_mapped : (rules : List PlainRule) → list_all (λ r. nat_eq (length r.action) 0) (map rule_of rules) ≡ list_all (λ r. nat_eq (length r.action.items) 0) rules
 all_mapped [] = refl
 all_mapped (r ∷ rs) = ap (λ b. nat_eq (length r.action.items) 0 && b) (all_mapped rs)
 
+-- and so is a port that isn't there
 pub none_mapped : (p : Option PlainField) → is_none (option_map field_of p) ≡ is_none p
 none_mapped None = refl
 none_mapped (Some f) = refl
 
-both : (b : Bool) → IsTrue b → IsFalse b → ⊥
-both b t f = let e : true ≡ false = sym t ∙ f in cc
-
-pub described_by : ((bytes : List ℕ) (x y : Description) → ReadsAs bytes x → ReadsAs bytes y → x ≡ y) → (name bytes : List ℕ) (p : Plain) (r : Result Plain Refusal)
-    → ReadsAs bytes (description_of p) → IsBuilt name p r → IsDescribed name bytes r
-described_by one name bytes p (Ok q) h b = subst (λ z. Describes bytes (description_of z)) (sym b.0) (record { reads = h; built = b.1 })
-described_by one name bytes p (Err refusals.Memory) h b = absurd b
-described_by one name bytes p (Err (refusals.Absent n)) h b = absurd b
-described_by one name bytes p (Err (refusals.Failed n)) h b = absurd b
-described_by one name bytes p (Err (refusals.TooLong n)) h b = absurd b
-described_by one name bytes p (Err (refusals.NotBuilt n)) h b =
-    (b.0, λ d w. both (is_built d) w.built (subst (λ z. IsFalse (is_built z)) (one bytes (description_of p) d h w.reads) b.1))
-described_by one name bytes p (Err (refusals.NoMatch n line)) h b = absurd b
+-- where the bytes spell this description, which isn't built, they spell none that is
+pub described_by : (purpose : Purpose) (name bytes : List ℕ) (p : Plain) (r : Result Plain Refusal) → ReadsAs bytes (description_of p)
+    → IfOk r (λ q. (q ≡ p) × IsTrue (is_built purpose (description_of p)))
+    → IfErr r (λ e. (refused e ≡ not_built_file name) × IsFalse (is_built purpose (description_of p))) → IsDescribed purpose name bytes r
+described_by purpose name bytes p (Ok q) reads kept other =
+    subst (λ z. IsDescribed purpose name bytes (Ok z)) (sym kept.0) (record { reads = reads; built = kept.1 })
+described_by purpose name bytes p (Err e) reads kept other =
+    inr (other.0, λ d w. false≢true (sym other.1 ∙ ap (is_built purpose) (one_description_holds bytes (description_of p) d reads w.reads) ∙ w.built))

@@ -1,7 +1,13 @@
+pub mod Agreeing
+pub mod Answering
 pub mod Built
 pub mod Causes
+pub mod Completeness
+pub mod Composing
+pub mod Images
 pub mod Lines
-pub mod OneOutcome
+pub mod Outputs
 pub mod Settling
 pub mod Telling
+pub mod Untouched
 pub mod Words

@@ -3,9 +3,12 @@ pub mod Seen
 pub mod Status
 pub mod Reading
 pub mod Outcome
+pub mod Coming
 pub mod Told
 pub mod Answer
 pub mod Cause
+pub mod Composed
 pub mod Refused
+pub mod Running
 pub mod Sample
 pub mod Ended

@@ -1,14 +1,9 @@
--- What a call comes to: a status and a text, by the words and what each read answered.
-use Rattle.std.specs.Prelude.{◌≡◌, ℕ, List, [], ◌∷◌, ◌++◌, length, Option, Some, None, codes, IsTrue, IsFalse, Bool, nat_eq, is_none, ◌&&◌}
-use Rattle.std.specs.List.{list_all}
-use Rattle.std.specs.Fmt.{decimal}
+-- What is told: a status and a text; and the file that is written before, where there is one.
+use Rattle.std.specs.Prelude.{ℕ, zero, suc, List, [], ◌∷◌, ◌++◌, length, ℤ, Option, None, codes}
+use Rattle.std.specs.Fmt.{decimal, signed_decimal}
 use Rattle.nk_base.specs.Hexadecimal.{hexadecimal, digits_of_word}
-use Rattle.nml_tree.specs.Description.{Description}
-use Rattle.nml_tree.specs.IsPlain.{word_width}
-use Rattle.nml_tree.specs.ReadAs.{ReadsAs}
-use Rattle.asm_tool.specs.Assembly.{Assembles, FailsAt, is_fit}
-use Rattle.asm_tool.specs.PlainText.{lines}
-use Rattle.nml_suite.specs.Form.{Form, Check, Asm, Dis, Run, Cc, Ceval, Demo}
+use Rattle.bit_sim.specs.Machine.{Stop, Running, Halted, NoWord, BadWord}
+use Rattle.bit_sim.specs.Machine as machine
 use Rattle.nml_suite.specs.Reading.{Reading, Got, Absent, Failed, TooLong, Unread}
 use Rattle.nml_suite.specs.declared.status.Status.{Status}
 use Rattle.nml_suite.specs.declared.status.Status.TheVariants as statuses
@@ -19,6 +14,24 @@ pub record Outcome : Type 0 where
 
 abbrev pub outcome : Status → List ℕ → Outcome
 outcome status text = record { status = status; text = text }
+
+-- a file that is written: its name, and its bytes
+pub record Written : Type 0 where
+  pub name : List ℕ
+  pub bytes : List ℕ
+
+-- What a call comes to: the file that is written first, where there is one, and then what is told.
+pub record Work : Type 0 where
+  pub file : Option Written
+  pub outcome : Outcome
+
+-- no file is written
+abbrev pub telling : Outcome → Work
+telling o = record { file = None; outcome = o }
+
+-- memory was wanted before there is a text
+abbrev pub starved : Outcome
+starved = outcome statuses.Memory []
 
 -- where the words match no form
 abbrev pub usage_line : List ℕ
@@ -32,9 +45,25 @@ not_built = outcome statuses.NotBuilt (codes "not built\n")
 abbrev pub not_built_file : List ℕ → Outcome
 not_built_file name = outcome statuses.NotBuilt (name ++ codes ": not built\n")
 
+-- what a file that gave no bytes comes to; it stays unread for want of memory
+abbrev pub unread : List ℕ → Reading → Outcome
+unread name (Got bytes) = starved
+unread name Absent = outcome statuses.Read (name ++ codes ": absent\n")
+unread name Failed = outcome statuses.Read (name ++ codes ": read failed\n")
+unread name TooLong = outcome statuses.TooLong (name ++ codes ": too long\n")
+unread name Unread = starved
+
+-- a file whose write failed
+abbrev pub write_failed : List ℕ → Outcome
+write_failed name = outcome statuses.Write (name ++ codes ": write failed\n")
+
 -- no instruction has the tokens of this line
 abbrev pub no_match : List ℕ → ℕ → Outcome
 no_match name line = outcome statuses.Source (name ++ codes ": S3 NoMatch " ++ decimal line ++ codes "\n")
+
+-- this line of an input isn't blank
+abbrev pub bad_input : List ℕ → ℕ → Outcome
+bad_input name line = outcome statuses.Input (name ++ codes ": Input " ++ decimal line ++ codes "\n")
 
 -- a word of so many bits, on a line
 abbrev pub word_line : ℕ → ℕ → List ℕ
@@ -51,61 +80,28 @@ ok_line count = codes "ok: " ++ decimal count ++ codes " words\n"
 abbrev pub assembled : ℕ → List ℕ → Outcome
 assembled width words = outcome statuses.Done (word_lines width words ++ ok_line (length words))
 
--- What `asm` comes to on a plain description and the bytes of a text.
-pub data AssemblesTo (d : Description) (name text : List ℕ) (o : Outcome) : Type 0 where
-  NotPlain : IsFalse (is_fit d text) → o ≡ not_built_file name → AssemblesTo d name text o
-  NoMatch : IsTrue (is_fit d text) → (line : ℕ) → FailsAt d (lines text) line → o ≡ no_match name line → AssemblesTo d name text o
-  Whole : IsTrue (is_fit d text) → (words : List ℕ) → Assembles d (lines text) words → o ≡ assembled (word_width d.rules) words
-      → AssemblesTo d name text o
+-- an output in decimal, on a line
+abbrev pub output_line : ℤ → List ℕ
+output_line z = signed_decimal z ++ codes "\n"
 
--- what a file that gave no bytes comes to; it stays unread for want of memory
-abbrev pub unread : List ℕ → Reading → Outcome
-unread name (Got bytes) = outcome statuses.Memory []
-unread name Absent = outcome statuses.Read (name ++ codes ": absent\n")
-unread name Failed = outcome statuses.Read (name ++ codes ": read failed\n")
-unread name TooLong = outcome statuses.TooLong (name ++ codes ": too long\n")
-unread name Unread = outcome statuses.Memory []
+abbrev pub output_lines : List ℤ → List ℕ
+output_lines [] = []
+output_lines (z ∷ zs) = output_line z ++ output_lines zs
 
--- what `asm` comes to on a plain description and what the read of a text answered
-abbrev pub TextComesTo : Description → List ℕ → Reading → Outcome → Type 0
-TextComesTo d name (Got text) o = AssemblesTo d name text o
-TextComesTo d name Absent o = o ≡ unread name Absent
-TextComesTo d name Failed o = o ≡ unread name Failed
-TextComesTo d name TooLong o = o ≡ unread name TooLong
-TextComesTo d name Unread o = o ≡ unread name Unread
+-- how a run stopped, on a line
+abbrev pub stop_line : Stop → List ℕ
+stop_line Running = codes "running\n"
+stop_line (Halted code) = codes "halted " ++ decimal code ++ codes "\n"
+stop_line (NoWord place) = codes "no word " ++ decimal place ++ codes "\n"
+stop_line (BadWord place) = codes "bad word " ++ decimal place ++ codes "\n"
 
--- The descriptions that are built so far: rules alone, without registers, a port and actions.
-abbrev pub declares_nothing : Description → Bool
-declares_nothing d = nat_eq (length d.regs) 0 && is_none d.out
+abbrev pub stop_status : Stop → Status
+stop_status Running = statuses.Budget
+stop_status (Halted zero) = statuses.Done
+stop_status (Halted (suc code)) = statuses.Stopped
+stop_status (NoWord place) = statuses.NoWord
+stop_status (BadWord place) = statuses.BadWord
 
-abbrev pub is_built : Description → Bool
-is_built d = declares_nothing d && list_all (λ r. nat_eq (length r.action) 0) d.rules
-
--- the bytes spell a description that is built
-pub record Describes (bytes : List ℕ) (d : Description) : Type 0 where
-  pub reads : ReadsAs bytes d
-  pub built : IsTrue (is_built d)
-
--- What `asm` comes to on the bytes of a description and what the read of a text answered.
-pub data BytesComeTo (name source bytes : List ℕ) (second : Reading) (o : Outcome) : Type 0 where
-  NoDescription : ((d : Description) → Describes bytes d → ⊥) → o ≡ not_built_file name → BytesComeTo name source bytes second o
-  Described : (d : Description) → Describes bytes d → TextComesTo d source second o → BytesComeTo name source bytes second o
-
--- what `asm` comes to: the description first, then the text
-abbrev pub AsmComesTo : List ℕ → List ℕ → Reading → Reading → Outcome → Type 0
-AsmComesTo name source (Got bytes) second o = BytesComeTo name source bytes second o
-AsmComesTo name source Absent second o = o ≡ unread name Absent
-AsmComesTo name source Failed second o = o ≡ unread name Failed
-AsmComesTo name source TooLong second o = o ≡ unread name TooLong
-AsmComesTo name source Unread second o = o ≡ unread name Unread
-
--- What the words come to, whatever the two reads answered that the command makes.
-abbrev pub ComesTo : Option Form → Reading → Reading → Outcome → Type 0
-ComesTo None first second o = o ≡ outcome statuses.Usage usage_line
-ComesTo (Some (Asm d s i)) first second o = AsmComesTo d s first second o
-ComesTo (Some (Check d)) first second o = o ≡ not_built
-ComesTo (Some (Dis d i)) first second o = o ≡ not_built
-ComesTo (Some (Run d i x n)) first second o = o ≡ not_built
-ComesTo (Some (Cc d c i)) first second o = o ≡ not_built
-ComesTo (Some (Ceval d c x n)) first second o = o ≡ not_built
-ComesTo (Some (Demo k)) first second o = o ≡ not_built
+-- a line for each output of a run, and one that tells how it stopped
+abbrev pub told_run : machine.Outcome → Outcome
+told_run r = outcome (stop_status r.stop) (output_lines r.out ++ stop_line r.stop)

@@ -11,6 +11,14 @@ pub data Reading : Type 0 where
   TooLong : Reading
   Unread : Reading
 
+-- no bytes came
+abbrev pub IsShort : Reading → Type 0
+IsShort (Got bytes) = ⊥
+IsShort Absent = Unit {0}
+IsShort Failed = Unit {0}
+IsShort TooLong = Unit {0}
+IsShort Unread = Unit {0}
+
 -- the cause of what was answered for the name, between two moments with these counts
 abbrev pub HasReading : Option Names → Counts → Counts → List ℕ → Reading → Type 0
 HasReading held before now name (Got bytes) = Reads held name bytes
@@ -19,13 +27,20 @@ HasReading held before now name Failed = Rose before.read_faults now.read_faults
 HasReading held before now name TooLong = IsTooLong held name
 HasReading held before now name Unread = Unit {0}
 
--- how many of two files may be read: none behind one that gave no bytes
-abbrev pub asked : Reading → ℕ
-asked (Got bytes) = 2
-asked Absent = 1
-asked Failed = 1
-asked TooLong = 1
-asked Unread = 2
+-- how many calls there may be, one for each of three files: none behind a file that gave no bytes
+abbrev pub asked_behind : Reading → ℕ
+asked_behind (Got bytes) = 3
+asked_behind Absent = 2
+asked_behind Failed = 2
+asked_behind TooLong = 2
+asked_behind Unread = 3
+
+abbrev pub asked : Reading → Reading → ℕ
+asked (Got bytes) second = asked_behind second
+asked Absent second = 1
+asked Failed second = 1
+asked TooLong second = 1
+asked Unread second = 3
 
 -- The files are as before, no count falls, and at most so many calls were made.
 pub record LeavesFiles (held held' : Option Names) (before now : Counts) (calls : ℕ) : Type 0 where

@@ -1,77 +1,161 @@
--- For private contracts: what a refusal is as an outcome, and what a step of `asm` refuses.
-use Rattle.std.specs.Prelude.{◌≡◌, ℕ, List, [], Option, Result, Ok, Err, IsTrue, IsFalse}
+-- For private contracts: what a refusal is as an outcome, what a step of a command refuses, and what the reading of its files comes to.
+use Rattle.std.specs.Prelude.{◌≡◌, ◌≤◌, ◌+◌, ◌⊎◌, ℕ, List, Option, Some, None, Result, Ok, Err, IsTrue, IsFalse}
 use Rattle.std.specs.Global.{Vec}
 use Rattle.nml_tree.specs.Description.{Description, description_of}
 use Rattle.nml_tree.specs.IsPlain.{word_width}
 use Rattle.nml_tree.specs.declared.rules.Plain.{Plain}
+use Rattle.image_file.specs.File.{Picture}
+use Rattle.image_file.specs.Seen.{picture_of}
+use Rattle.image_file.specs.declared.image.Image.{Image}
 use Rattle.asm_tool.specs.Assembly.{Assembles, FailsAt, is_fit}
 use Rattle.asm_tool.specs.PlainText.{lines}
-use Rattle.nk_outside.specs.Count.{Counts}
-use Rattle.nk_outside.specs.Held.{Names}
-use Rattle.nml_suite.specs.Answer.{ReadsTwo}
-use Rattle.nml_suite.specs.Outcome.{Describes, is_built, Outcome, outcome, unread, not_built_file, no_match, assembled, AsmComesTo}
-use Rattle.nml_suite.specs.Reading.{Reading, Got, Absent, Failed, TooLong, HasReading}
+use Rattle.nk_outside.specs.Count.{Counts, Rose}
+use Rattle.nk_outside.specs.Held.{Names, SameElsewhere}
+use Rattle.nml_suite.specs.Answer.{Store, ReadsThree, HasWritten}
+use Rattle.nml_suite.specs.Coming.{Describes, IsImageOf, AsmComesTo, RunComesTo, image_file, first_input}
+use Rattle.nml_suite.specs.Outcome.{Outcome, Work, Written, telling, starved, unread, write_failed, not_built_file, no_match, bad_input, assembled}
+use Rattle.nml_suite.specs.Reading.{Reading, Got, Absent, Failed, TooLong, IsShort, HasReading, asked}
 use Rattle.nml_suite.specs.declared.assemble.Assembled.{Assembled}
+use Rattle.nml_suite.specs.declared.purpose.Purpose.{Purpose}
+use Rattle.nml_suite.specs.declared.purpose.Purpose.TheVariants as purposes
+use Rattle.nml_suite.specs.declared.ready.Ready.{Ready}
 use Rattle.nml_suite.specs.declared.refusal.Refusal.{Refusal}
 use Rattle.nml_suite.specs.declared.refusal.Refusal.TheVariants as refusals
-use Rattle.nml_suite.specs.declared.status.Status.TheVariants as statuses
 
 abbrev pub refused : Refusal → Outcome
-refused refusals.Memory = outcome statuses.Memory []
+refused refusals.Memory = starved
 refused (refusals.Absent name) = unread name.now Absent
 refused (refusals.Failed name) = unread name.now Failed
 refused (refusals.TooLong name) = unread name.now TooLong
+refused (refusals.Unwritten name) = write_failed name.now
 refused (refusals.NotBuilt name) = not_built_file name.now
 refused (refusals.NoMatch name line) = no_match name.now line
+refused (refusals.Input name line) = bad_input name.now line
 
--- the file was read, or it was refused by this name, with a cause
+-- memory was wanted
+abbrev pub Wants : Refusal → Type 0
+Wants refusal = refused refusal ≡ starved
+
+-- the read of this name gave no bytes, with a cause
+pub record IsUnread (held : Option Names) (before now : Counts) (name : List ℕ) (o : Outcome) : Type 0 where
+  pub reading : Reading
+  pub short : IsShort reading
+  pub cause : HasReading held before now name reading
+  pub is : o ≡ unread name reading
+
+-- the file was read, or it gave no bytes
 abbrev pub IsLoaded : Option Names → Counts → Counts → List ℕ → Result (Vec ℕ) Refusal → Type 0
 IsLoaded held before now name (Ok bytes) = HasReading held before now name (Got bytes.items)
-IsLoaded held before now name (Err refusals.Memory) = Unit {0}
-IsLoaded held before now name (Err (refusals.Absent n)) = (n.now ≡ name) × HasReading held before now name Absent
-IsLoaded held before now name (Err (refusals.Failed n)) = (n.now ≡ name) × HasReading held before now name Failed
-IsLoaded held before now name (Err (refusals.TooLong n)) = (n.now ≡ name) × HasReading held before now name TooLong
-IsLoaded held before now name (Err (refusals.NotBuilt n)) = ⊥
-IsLoaded held before now name (Err (refusals.NoMatch n line)) = ⊥
+IsLoaded held before now name (Err refusal) = IsUnread held before now name (refused refusal)
 
--- the description is one that is built, or the file of this name isn't built
-abbrev pub IsBuilt : List ℕ → Plain → Result Plain Refusal → Type 0
-IsBuilt name found (Ok p) = (p ≡ found) × IsTrue (is_built (description_of found))
-IsBuilt name found (Err refusals.Memory) = ⊥
-IsBuilt name found (Err (refusals.Absent n)) = ⊥
-IsBuilt name found (Err (refusals.Failed n)) = ⊥
-IsBuilt name found (Err (refusals.TooLong n)) = ⊥
-IsBuilt name found (Err (refusals.NotBuilt n)) = (n.now ≡ name) × IsFalse (is_built (description_of found))
-IsBuilt name found (Err (refusals.NoMatch n line)) = ⊥
+-- the bytes are the description, or the file of this name isn't built, or memory was wanted
+abbrev pub IsDescribed : Purpose → List ℕ → List ℕ → Result Plain Refusal → Type 0
+IsDescribed purpose name bytes (Ok p) = Describes purpose bytes (description_of p)
+IsDescribed purpose name bytes (Err refusal) =
+    Wants refusal ⊎ ((refused refusal ≡ not_built_file name) × ((d : Description) → Describes purpose bytes d → ⊥))
 
--- the bytes are the description, or the file of this name isn't built
-abbrev pub IsDescribed : List ℕ → List ℕ → Result Plain Refusal → Type 0
-IsDescribed name bytes (Ok p) = Describes bytes (description_of p)
-IsDescribed name bytes (Err refusals.Memory) = Unit {0}
-IsDescribed name bytes (Err (refusals.Absent n)) = ⊥
-IsDescribed name bytes (Err (refusals.Failed n)) = ⊥
-IsDescribed name bytes (Err (refusals.TooLong n)) = ⊥
-IsDescribed name bytes (Err (refusals.NotBuilt n)) = (n.now ≡ name) × ((d : Description) → Describes bytes d → ⊥)
-IsDescribed name bytes (Err (refusals.NoMatch n line)) = ⊥
+-- ---- `asm`
 
--- the text of this name was assembled, or it isn't built, or a line fails
-abbrev pub IsAssembledText : Description → List ℕ → List ℕ → Result Assembled Refusal → Type 0
-IsAssembledText d name text (Ok made) = IsTrue (is_fit d text) × Assembles d (lines text) made.words.items × (made.width ≡ word_width d.rules)
-IsAssembledText d name text (Err refusals.Memory) = Unit {0}
-IsAssembledText d name text (Err (refusals.Absent n)) = ⊥
-IsAssembledText d name text (Err (refusals.Failed n)) = ⊥
-IsAssembledText d name text (Err (refusals.TooLong n)) = ⊥
-IsAssembledText d name text (Err (refusals.NotBuilt n)) = (n.now ≡ name) × IsFalse (is_fit d text)
-IsAssembledText d name text (Err (refusals.NoMatch n line)) = (n.now ≡ name) × IsTrue (is_fit d text) × FailsAt d (lines text) line
+-- the file that was made, under a name
+abbrev pub file_named : List ℕ → Option (Vec ℕ) → Option Written
+file_named name None = None
+file_named name (Some bytes) = Some (record { name = name; bytes = bytes.items })
+
+-- these are the words, their width, and the file of their image
+pub record IsMade (bytes : List ℕ) (d : Description) (words : List ℕ) (made : Assembled) : Type 0 where
+  pub words_are : made.image.words.items ≡ words
+  pub width_is : made.image.width ≡ word_width d.rules
+  pub file_is : (name : List ℕ) → file_named name made.file ≡ image_file name bytes d words
+
+-- the text doesn't fit
+pub record IsOtherText (d : Description) (name text : List ℕ) (o : Outcome) : Type 0 where
+  pub other : IsFalse (is_fit d text)
+  pub is : o ≡ not_built_file name
+
+-- a line of the text has no match
+pub record IsBadLine (d : Description) (name text : List ℕ) (o : Outcome) : Type 0 where
+  pub fit : IsTrue (is_fit d text)
+  pub line : ℕ
+  pub fails : FailsAt d (lines text) line
+  pub is : o ≡ no_match name line
+
+-- the text fits, and this was made of its words
+pub record IsWhole (bytes : List ℕ) (d : Description) (text : List ℕ) (made : Assembled) : Type 0 where
+  pub fit : IsTrue (is_fit d text)
+  pub words : List ℕ
+  pub assembles : Assembles d (lines text) words
+  pub made_of : IsMade bytes d words made
+
+-- the text of this name was assembled, or it isn't built, or a line fails, or memory was wanted
+abbrev pub IsAssembledText : List ℕ → Description → List ℕ → List ℕ → Result Assembled Refusal → Type 0
+IsAssembledText bytes d name text (Ok made) = IsWhole bytes d text made
+IsAssembledText bytes d name text (Err refusal) = Wants refusal ⊎ (IsOtherText d name text (refused refusal) ⊎ IsBadLine d name text (refused refusal))
 
 -- what comes of the words or a refusal
-abbrev pub settled : Result Assembled Refusal → Outcome
-settled (Ok made) = assembled made.width made.words.items
-settled (Err refusal) = refused refusal
+abbrev pub settled : List ℕ → Result Assembled Refusal → Work
+settled image (Ok made) = record { file = file_named image made.file; outcome = assembled made.image.width made.image.words.items }
+settled image (Err refusal) = telling (refused refusal)
 
--- what was read for `asm`, with the causes, and what it comes to
-pub record AsmSettles (held : Option Names) (before now : Counts) (description source : List ℕ) (o : Outcome) : Type 0 where
+-- how many calls the write of a file is
+abbrev pub writes : Option Written → ℕ
+writes None = 0
+writes (Some f) = 1
+
+-- what was read for `asm`, with the causes, and what it comes to; nothing is written yet
+pub record AsmSettles (before now : Store) (description source image : List ℕ) (w : Work) : Type 0 where
   pub first : Reading
   pub second : Reading
-  pub readings : ReadsTwo held before now description source first second
-  pub comes : AsmComesTo description source first second o
+  pub first_cause : HasReading before.held before.counts now.counts description first
+  pub second_cause : HasReading before.held before.counts now.counts source second
+  pub calls : now.counts.calls + writes w.file ≤ before.counts.calls + asked first second
+  pub comes : AsmComesTo description source image first second w
+
+-- the file was written, where there is one; or its write failed; or memory was wanted for it
+abbrev pub IsStored : Store → Store → Option Written → Result (Unit {0}) Refusal → Type 0
+IsStored before now None (Ok done) = now ≡ before
+IsStored before now None (Err refusal) = ⊥
+IsStored before now (Some f) (Ok done) = HasWritten before now f
+IsStored before now (Some f) (Err refusal) =
+    ((refused refusal ≡ write_failed f.name) × SameElsewhere f.name before.held now.held × Rose before.counts.write_faults now.counts.write_faults)
+    ⊎ (Wants refusal × (now.held ≡ before.held) × (before.counts.write_faults ≤ now.counts.write_faults))
+
+-- the counts of reads are as before, and there was one more call at most where there is a file
+pub record LeavesReads (before now : Counts) (file : Option Written) : Type 0 where
+  pub calls : now.calls ≤ before.calls + writes file
+  pub reads : now.read_faults ≡ before.read_faults
+  pub absents : now.absents ≡ before.absents
+
+-- ---- `run`
+
+-- the bits are the image, or the file of this name isn't built, or memory was wanted
+abbrev pub IsFound : List ℕ → Description → List ℕ → List ℕ → Result Image Refusal → Type 0
+IsFound bytes d name bits (Ok i) = IsImageOf bytes d bits (picture_of i)
+IsFound bytes d name bits (Err refusal) =
+    Wants refusal ⊎ ((refused refusal ≡ not_built_file name) × ((i : Picture) → IsImageOf bytes d bits i → ⊥))
+
+-- no line of the input stands in the way, or the first that does is told
+abbrev pub IsBlankInput : List ℕ → List ℕ → Result (Unit {0}) Refusal → Type 0
+IsBlankInput name text (Ok done) = first_input 1 (lines text) ≡ None
+IsBlankInput name text (Err refusal) = (line : ℕ) × (first_input 1 (lines text) ≡ Some line) × (refused refusal ≡ bad_input name line)
+
+-- what was read for `run`, with the causes, and the refusal that it comes to
+pub record RunRefused (before now : Store) (description image input : List ℕ) (o : Outcome) : Type 0 where
+  pub first : Reading
+  pub second : Reading
+  pub third : Reading
+  pub readings : ReadsThree before now description image input first second third
+  pub comes : (steps : ℕ) → RunComesTo description image input steps first second third (telling o)
+
+-- all three files were read, and a run may begin
+pub record IsReady (before now : Store) (description image input : List ℕ) (p : Plain) (i : Image) : Type 0 where
+  pub bytes : List ℕ
+  pub bits : List ℕ
+  pub text : List ℕ
+  pub readings : ReadsThree before now description image input (Got bytes) (Got bits) (Got text)
+  pub described : Describes purposes.Running bytes (description_of p)
+  pub image_is : IsImageOf bytes (description_of p) bits (picture_of i)
+  pub blank : first_input 1 (lines text) ≡ None
+
+abbrev pub RunSettles : Store → Store → List ℕ → List ℕ → List ℕ → Result Ready Refusal → Type 0
+RunSettles before now description image input (Ok r) = IsReady before now description image input r.plain r.image
+RunSettles before now description image input (Err refusal) = RunRefused before now description image input (refused refusal)

@@ -1,7 +1,15 @@
 -- Worked examples of the definitions, each by computation.
-use Rattle.std.specs.Prelude.{◌≡◌, [], ◌∷◌, Some, None, codes, refl}
+use Rattle.std.specs.Prelude.{◌≡◌, [], ◌∷◌, Some, None, true, false, codes, refl, pos, negsuc}
+use Rattle.std.specs.Fmt.{digits}
+use Rattle.nml_tree.specs.SampleMachine as sample
+use Rattle.image_file.specs.File.{file}
+use Rattle.asm_tool.specs.PlainText.{lines}
+use Rattle.bit_sim.specs.Sample as runs
+use Rattle.nml_suite.specs.Coming.{RunsTo, Input, Ran, first_input, image_file, is_built, picture}
 use Rattle.nml_suite.specs.Form.{Asm, Run, Demo, form_of}
-use Rattle.nml_suite.specs.Outcome.{word_lines}
+use Rattle.nml_suite.specs.Outcome.{outcome, output_lines, telling, word_lines}
+use Rattle.nml_suite.specs.declared.purpose.Purpose.TheVariants as purposes
+use Rattle.nml_suite.specs.declared.status.Status.TheVariants as statuses
 
 asm_form : form_of (codes "asm" ∷ codes "m0" ∷ codes "s" ∷ codes "i" ∷ []) ≡ Some (Asm (codes "m0") (codes "s") (codes "i"))
 asm_form = refl
@@ -28,3 +36,40 @@ no_words = refl
 -- ten bits are three digits
 two_words : word_lines 10 (0x105 ∷ 0 ∷ []) ≡ codes "105\n000\n"
 two_words = refl
+
+two_outputs : output_lines (pos 5 ∷ negsuc 127 ∷ []) ≡ codes "5\n-128\n"
+unfolding digits
+two_outputs = refl
+
+-- rules alone are assembled and not run
+assembles_rules : is_built purposes.Assembling sample.machine ≡ true
+assembles_rules = refl
+
+runs_no_rules : is_built purposes.Running sample.machine ≡ false
+runs_no_rules = refl
+
+runs_machine : is_built purposes.Running sample.running_machine ≡ true
+runs_machine = refl
+
+-- an image is written where there is PC
+no_image : image_file (codes "i") (codes "d") sample.machine runs.words ≡ None
+no_image = refl
+
+an_image : image_file (codes "i") (codes "d") sample.running_machine runs.words ≡ Some (record { name = codes "i"; bytes = file (picture (codes "d") sample.running_machine runs.words) })
+an_image = refl
+
+-- blank lines count, and the first that isn't blank is told
+third_line : first_input 1 (lines (codes " \t\n\n 7\n8")) ≡ Some 3
+third_line = refl
+
+all_blank : first_input 1 (lines (codes " \t\n\n")) ≡ None
+all_blank = refl
+
+-- `ldi 5`, `outa`, `hlt 2` in at most three steps
+program : RunsTo (codes "x") 3 sample.running_machine runs.words [] (telling (outcome statuses.Stopped (codes "5\nhalted 2\n")))
+unfolding digits
+program = Ran refl (runs.outcome (pos 5 ∷ [])) runs.prints refl
+
+refused_input : RunsTo (codes "x") 3 sample.running_machine runs.words (codes "\n7") (telling (outcome statuses.Input (codes "x: Input 2\n")))
+unfolding digits
+refused_input = Input 2 refl refl

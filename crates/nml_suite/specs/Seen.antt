@@ -1,6 +1,9 @@
--- The form that a command is.
+-- The form that a command is, and the stop of a run.
+use Rattle.bit_sim.specs.Machine as machine
 use Rattle.nml_suite.specs.declared.command.Command.{Command}
 use Rattle.nml_suite.specs.declared.command.Command.TheVariants as commands
+use Rattle.nml_suite.specs.declared.stop.Stop.{Stop}
+use Rattle.nml_suite.specs.declared.stop.Stop.TheVariants as stops
 use Rattle.nml_suite.specs.Form.{Form, Check, Asm, Dis, Run, Cc, Ceval, Demo}
 
 abbrev pub seen : Command → Form
@@ -11,3 +14,9 @@ seen (commands.Run d i x n) = Run d.now i.now x.now n
 seen (commands.Cc d c i) = Cc d.now c.now i.now
 seen (commands.Ceval d c x n) = Ceval d.now c.now x.now n
 seen (commands.Demo k) = Demo k
+
+abbrev pub stop_of : Stop → machine.Stop
+stop_of stops.Running = machine.Running
+stop_of (stops.Halted code) = machine.Halted code
+stop_of (stops.NoWord place) = machine.NoWord place
+stop_of (stops.BadWord place) = machine.BadWord place

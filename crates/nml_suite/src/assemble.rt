@@ -1,102 +1,111 @@
+ghost use Rattle.nml_suite.specs.Answer.{store};
 ghost use Rattle.nml_suite.specs.Reading.{LeavesFiles};
-ghost use Rattle.nml_suite.specs.Refused.{IsBuilt, IsDescribed, IsAssembledText, AsmSettles, settled};
-ghost use Rattle.std.specs.Prelude.{◌≡◌, length, nat_eq};
-ghost use Rattle.std.specs.List.{list_all};
-ghost use Rattle.nml_suite.specs.Outcome as spec;
+ghost use Rattle.nml_suite.specs.Refused.{IsAssembledText, IsMade, IsStored, LeavesReads, AsmSettles, file_named, settled};
+ghost use Rattle.std.specs.Prelude.{◌≡◌, ◌≤◌, ◌<◌, ◌^◌, ℕ, List, length, IfOk, IsTrue};
+ghost use Rattle.std.specs.List.{AllByRecursion};
+ghost use Rattle.nml_suite.specs.Coming as spec;
 ghost use Rattle.nml_tree.specs.Description.{description_of};
-ghost use Rattle.nml_tree.specs.IsPlain.{IsPlain};
+ghost use Rattle.nml_tree.specs.IsPlain.{IsPlain, word_width};
 
+use crate::describe::{describe, has_pc};
 use crate::load::load;
+use crate::purpose::Purpose;
 use crate::refusal::Refusal;
 use asm_tool::{PlainFault, plain_words};
+use image_file::{Image, write};
 use nk_base::{Memory, Text};
-use nk_outside::Files;
-use nml_tree::{Plain, PlainRule, plain, word_bits};
+use nk_outside::{Files, WriteFault};
+use nml_tree::{Plain, word_bits};
+use sha2::{Digest, Sha256};
 use std::alloc::Global;
 
-/// The words of a text, and how many bits a word has.
+/// The image of a text's words, and its file where one is written.
 #[derive(Drop)]
 pub struct Assembled {
-    pub width: u32,
-    pub words: Vec<u128>,
+    pub image: Image,
+    pub file: Option<Vec<u8>>,
 }
 
-/// Reads a description and a text, and assembles the text: the description is refused first.
+/// Reads a description and a text, and assembles the text: the description is refused first. Nothing is written yet.
 pub fn assemble<'a, F: Files>(
     alloc: Global,
     files: &mut F,
     description: &'a Text,
     source: &'a Text,
 ) -> Result<Assembled, Refusal<'a>>
-    ensures settles { AsmSettles (F.held files.old) (F.counts files.old) (F.counts files.new) description.now source.now (settled result) }
+    ensures settles { (image : List ℕ) → AsmSettles (store (F.held files.old) (F.counts files.old)) (store (F.held files.new) (F.counts files.new)) description.now source.now image (settled image result) }
     ensures files { LeavesFiles (F.held files.old) (F.held files.new) (F.counts files.old) (F.counts files.new) 2 }
 {
     let bytes = load(alloc, files, description)?;
-    let plain = describe(alloc, description, &bytes)?;
+    let plain = describe(alloc, description, &bytes, Purpose::Assembling)?;
     let text = load(alloc, files, source)?;
-    words_of(alloc, source, &plain, &text)
+    words_of(alloc, source, &plain, &bytes, &text)
 }
 
-/// The description that the bytes of the named file spell, where it is one that is built.
-fn describe<'a>(alloc: Global, name: &'a Text, bytes: &[u8]) -> Result<Plain, Refusal<'a>>
-    ensures { IsDescribed name.now bytes.now result }
-{
-    match plain(alloc, bytes) {
-        Ok(Some(found)) => built(name, found),
-        Ok(None) => Err(Refusal::NotBuilt(name)),
-        Err(Memory) => Err(Refusal::Memory),
-    }
-}
-
-/// The description, where it is one that is built.
-fn built<'a>(name: &'a Text, found: Plain) -> Result<Plain, Refusal<'a>>
-    ensures { IsBuilt name.now found result }
-{
-    if is_built(&found) {
-        Ok(found)
-    } else {
-        Err(Refusal::NotBuilt(name))
-    }
-}
-
-/// Whether the description is of rules alone, without registers, a port and actions.
-#[tactic(auto, using(crate::proofs::Built::all_mapped))]
-fn is_built(plain: &Plain) -> bool
-    ensures { result ≡ spec.is_built (description_of plain.now) }
-{
-    declares_nothing(plain) && are_without_actions(&plain.rules)
-}
-
-/// Whether the description has no registers and no port.
-#[tactic(auto, using(crate::proofs::Built::none_mapped))]
-fn declares_nothing(plain: &Plain) -> bool
-    ensures { result ≡ spec.declares_nothing (description_of plain.now) }
-{
-    plain.regs.is_empty() && plain.out.is_none()
-}
-
-/// Whether no rule has an action.
-fn are_without_actions(rules: &[PlainRule]) -> bool
-    ensures { result ≡ list_all (λ r. nat_eq (length r.action.items) 0) rules.now }
-{
-    rules.iter().all(|rule| rule.action.is_empty())
-}
-
-/// The words of the named file's text.
+/// What is made of the words of the named file's text.
 fn words_of<'a>(
     alloc: Global,
     name: &'a Text,
     plain: &Plain,
+    bytes: &[u8],
     text: &[u8],
 ) -> Result<Assembled, Refusal<'a>>
     requires { IsPlain (description_of plain.now) }
-    ensures { IsAssembledText (description_of plain.now) name.now text.now result }
+    ensures { IsAssembledText bytes.now (description_of plain.now) name.now text.now result }
 {
-    let width = word_bits(plain);
     match plain_words(alloc, plain, text) {
-        Ok(words) => Ok(Assembled { width, words }),
+        Ok(words) => match made_of(alloc, plain, bytes, words) {
+            Ok(made) => Ok(made),
+            Err(Memory) => Err(Refusal::Memory),
+        },
         Err(PlainFault::NotBuilt) => Err(Refusal::NotBuilt(name)),
         Err(PlainFault::NoMatch { line }) => Err(Refusal::NoMatch(name, line)),
         Err(PlainFault::Memory) => Err(Refusal::Memory),
+    }
+}
+
+/// The image of the words, and its file where PC is declared.
+fn made_of(
+    alloc: Global,
+    plain: &Plain,
+    bytes: &[u8],
+    words: Vec<u128>,
+) -> Result<Assembled, Memory>
+    requires plain { IsPlain (description_of plain.now) }
+    requires fit { AllByRecursion (λ w. w < 2 ^ word_width (description_of plain.now).rules) words.items }
+    requires count { IsTrue (spec.has_pc (description_of plain.now)) → length words.items ≤ 65536 }
+    ensures { IfOk result (λ made. IsMade bytes.now (description_of plain.now) words.items made) }
+{
+    let image = Image {
+        digest: Sha256::digest(bytes),
+        width: word_bits(plain) as u8,
+        words,
+        inits: Vec::new(alloc),
+    };
+    let file = if has_pc(plain) {
+        Some(write(alloc, &image)?)
+    } else {
+        None
+    };
+    Ok(Assembled { image, file })
+}
+
+/// Writes the image's file under the name, where there is one.
+pub fn save<'a, F: Files>(
+    alloc: Global,
+    files: &mut F,
+    name: &'a Text,
+    made: &Assembled,
+) -> Result<(), Refusal<'a>>
+    ensures stored { IsStored (store (F.held files.old) (F.counts files.old)) (store (F.held files.new) (F.counts files.new)) (file_named name.now made.now.file) result }
+    ensures reads { LeavesReads (F.counts files.old) (F.counts files.new) (file_named name.now made.now.file) }
+{
+    let Some(bytes) = &made.file else {
+        return Ok(());
+    };
+    match files.write(alloc, name, bytes) {
+        Ok(()) => Ok(()),
+        Err(WriteFault::Failed) => Err(Refusal::Unwritten(name)),
+        Err(WriteFault::Memory) => Err(Refusal::Memory),
     }
 }

@@ -3,13 +3,20 @@
 
 mod assemble;
 mod command;
+mod describe;
+mod law;
 mod load;
+mod purpose;
+mod ready;
 mod refusal;
+mod run;
 mod status;
+mod stop;
 mod tell;
 #[cfg(test)]
 mod tests;
 mod top;
 
+pub use law::asm_then_run;
 pub use status::Status;
 pub use top::suite;

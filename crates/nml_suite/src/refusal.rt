@@ -1,5 +1,5 @@
-ghost use Rattle.std.specs.Prelude.{◌≡◌, ◌++◌, IfOk};
-ghost use Rattle.nml_suite.specs.Outcome as spec;
+ghost use Rattle.std.specs.Prelude.{◌≡◌, ◌++◌, IfOk, codes};
+ghost use Rattle.std.specs.Fmt.{decimal};
 ghost use Rattle.nml_suite.specs.Refused.{refused};
 
 use crate::Status;
@@ -13,9 +13,13 @@ pub enum Refusal<'a> {
     Absent(&'a Text),
     Failed(&'a Text),
     TooLong(&'a Text),
+    /// The write of the file failed.
+    Unwritten(&'a Text),
     NotBuilt(&'a Text),
     /// No instruction has the tokens of the line.
     NoMatch(&'a Text, u64),
+    /// The line of an input isn't blank.
+    Input(&'a Text, u64),
 }
 
 impl Refusal<'_> {
@@ -27,8 +31,10 @@ impl Refusal<'_> {
             Refusal::Memory => Status::Memory,
             Refusal::Absent(_) | Refusal::Failed(_) => Status::Read,
             Refusal::TooLong(_) => Status::TooLong,
+            Refusal::Unwritten(_) => Status::Write,
             Refusal::NotBuilt(_) => Status::NotBuilt,
             Refusal::NoMatch(_, _) => Status::Source,
+            Refusal::Input(_, _) => Status::Input,
         }
     }
 
@@ -41,8 +47,10 @@ impl Refusal<'_> {
             Refusal::Absent(name) => named(alloc, name, b": absent\n"),
             Refusal::Failed(name) => named(alloc, name, b": read failed\n"),
             Refusal::TooLong(name) => named(alloc, name, b": too long\n"),
+            Refusal::Unwritten(name) => named(alloc, name, b": write failed\n"),
             Refusal::NotBuilt(name) => named(alloc, name, b": not built\n"),
-            Refusal::NoMatch(name, line) => no_match(alloc, name, *line),
+            Refusal::NoMatch(name, line) => at_line(alloc, name, b": S3 NoMatch ", *line),
+            Refusal::Input(name, line) => at_line(alloc, name, b": Input ", *line),
         }
     }
 }
@@ -56,11 +64,11 @@ fn named(alloc: Global, name: &Text, rest: &[u8]) -> Result<Text, Memory>
     Ok(line)
 }
 
-/// The fault line of a text's line without a match.
-fn no_match(alloc: Global, name: &Text, number: u64) -> Result<Text, Memory>
-    ensures { IfOk result (λ t. t ≡ (spec.no_match name.now number).text) }
+/// A name, what stands behind it, and the number of a line.
+fn at_line(alloc: Global, name: &Text, fault: &[u8], number: u64) -> Result<Text, Memory>
+    ensures { IfOk result (λ t. t ≡ name.now ++ (fault.now ++ (decimal number ++ codes "\n"))) }
 {
-    let mut line = named(alloc, name, b": S3 NoMatch ")?;
+    let mut line = named(alloc, name, fault)?;
     line.push_bytes(dec(alloc, i128::from(number))?.as_bytes())?;
     line.push_bytes(b"\n")?;
     Ok(line)

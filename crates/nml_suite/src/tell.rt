@@ -31,14 +31,19 @@ pub fn tell_refusal<S: Sink>(alloc: Global, sink: &mut S, refusal: &Refusal<'_>)
 
 /// Puts the words, a line each, and how many there are.
 pub fn tell_assembled<S: Sink>(alloc: Global, sink: &mut S, made: &Assembled) -> Status
-    ensures { Told (spec.assembled made.now.width made.now.words.items) (S.taken sink.old) (S.taken sink.new) (S.faults sink.old) (S.faults sink.new) result }
+    ensures { Told (spec.assembled made.now.image.width made.now.image.words.items) (S.taken sink.old) (S.taken sink.new) (S.faults sink.old) (S.faults sink.new) result }
 {
-    let put = put_assembled(alloc, sink, made.width, &made.words);
+    let put = put_assembled(alloc, sink, u32::from(made.image.width), &made.image.words);
     ended(alloc, sink, put, Status::Done)
 }
 
 /// The status after the last put; where memory was wanted, the line `memory` is put first.
-fn ended<S: Sink>(alloc: Global, sink: &mut S, put: Result<(), WriteFault>, done: Status) -> Status
+pub fn ended<S: Sink>(
+    alloc: Global,
+    sink: &mut S,
+    put: Result<(), WriteFault>,
+    done: Status,
+) -> Status
     ensures { Ends put done (S.taken sink.old) (S.taken sink.new) (S.faults sink.old) (S.faults sink.new) result }
 {
     match put {

@@ -1,11 +1,15 @@
+ghost use Rattle.std.specs.Prelude.{Some};
 ghost use Rattle.nml_suite.specs.Answer.{Answers, moment};
-ghost use Rattle.nml_suite.specs.Form.{form_of, Asm};
-ghost use Rattle.std.specs.Prelude.{◌≡◌, Some};
-ghost use Rattle.nml_suite.specs.Cause.{HasCause, IsComplete};
+ghost use Rattle.nml_suite.specs.Cause.{HasCause, IsUsage, IsComplete, LeavesOthers};
+ghost use Rattle.nml_suite.specs.Form.{form_of, Asm, Run};
+ghost use Rattle.nml_suite.specs.Outcome.{not_built};
+ghost use Rattle.nml_suite.specs.Told.{Told};
 
 use crate::Status;
-use crate::assemble::assemble;
+use crate::assemble::{assemble, save};
 use crate::command::{Command, command_of};
+use crate::ready::prepare;
+use crate::run::tell_run;
 use crate::tell::{tell, tell_assembled, tell_refusal};
 use nk_base::Text;
 use nk_outside::{Files, Sink};
@@ -15,7 +19,7 @@ use std::alloc::Global;
 const USAGE: &[u8] =
     b"usage: check D, asm D S I, dis D I, run D I X n, cc D C I, ceval D C X n, demo k\n";
 
-/// Does all that the program does: tells the words apart, reads the files that they name, and puts the text.
+/// Does all that the program does: tells the words apart, reads the files that they name, writes an image, and puts the text.
 pub fn suite<F: Files, S: Sink>(
     alloc: Global,
     words: &Vec<Text>,
@@ -26,19 +30,24 @@ pub fn suite<F: Files, S: Sink>(
 
     // When each answer comes.
     ensures cause { HasCause (moment (F.held files.old) (F.counts files.old) (S.taken sink.old) (S.faults sink.old)) (moment (F.held files.new) (F.counts files.new) (S.taken sink.new) (S.faults sink.new)) (form_of words.now.items) result }
+    ensures usage { IsUsage (form_of words.now.items) result }
 
-    // Where the files are told, and no count of faults of reads or puts rises, it is the defined answer or want of memory.
+    // Where the files are told and no count of faults rises, it is the defined answer or want of memory.
     ensures complete { IsComplete (moment (F.held files.old) (F.counts files.old) (S.taken sink.old) (S.faults sink.old)) (moment (F.held files.new) (F.counts files.new) (S.taken sink.new) (S.faults sink.new)) (form_of words.now.items) result }
 
-    // No file is changed.
-    ensures held { F.held files.new ≡ F.held files.old }
-    ensures write_faults { (F.counts files.new).write_faults ≡ (F.counts files.old).write_faults }
+    // No file is changed but the image of `asm`.
+    ensures files { LeavesOthers (moment (F.held files.old) (F.counts files.old) (S.taken sink.old) (S.faults sink.old)) (moment (F.held files.new) (F.counts files.new) (S.taken sink.new) (S.faults sink.new)) (form_of words.now.items) result }
 {
-    run(alloc, words, files, sink)
+    answer(alloc, words, files, sink)
 }
 
 /// Tells the words apart, and does what they say.
-fn run<F: Files, S: Sink>(alloc: Global, words: &Vec<Text>, files: &mut F, sink: &mut S) -> Status
+fn answer<F: Files, S: Sink>(
+    alloc: Global,
+    words: &Vec<Text>,
+    files: &mut F,
+    sink: &mut S,
+) -> Status
     ensures { Answers (moment (F.held files.old) (F.counts files.old) (S.taken sink.old) (S.faults sink.old)) (moment (F.held files.new) (F.counts files.new) (S.taken sink.new) (S.faults sink.new)) (form_of words.now.items) result }
 {
     match command_of(words) {
@@ -48,14 +57,51 @@ fn run<F: Files, S: Sink>(alloc: Global, words: &Vec<Text>, files: &mut F, sink:
                 source,
                 image,
             },
-        ) => tell_asm(alloc, files, sink, description, source, image),
-        Some(_) => tell(alloc, sink, b"not built\n", Status::NotBuilt),
+        ) => answer_asm(alloc, files, sink, description, source, image),
+        Some(
+            Command::Run {
+                description,
+                image,
+                input,
+                steps,
+            },
+        ) => answer_run(alloc, files, sink, description, image, input, steps),
+        Some(Command::Check(_)) => tell_not_built(alloc, sink),
+        Some(
+            Command::Dis {
+                description: _,
+                image: _,
+            },
+        ) => tell_not_built(alloc, sink),
+        Some(
+            Command::Cc {
+                description: _,
+                source: _,
+                image: _,
+            },
+        ) => tell_not_built(alloc, sink),
+        Some(
+            Command::Ceval {
+                description: _,
+                source: _,
+                input: _,
+                turns: _,
+            },
+        ) => tell_not_built(alloc, sink),
+        Some(Command::Demo(_)) => tell_not_built(alloc, sink),
         None => tell(alloc, sink, USAGE, Status::Usage),
     }
 }
 
-/// Assembles a text, and puts its words.
-fn tell_asm<F: Files, S: Sink>(
+/// Tells that a command isn't built yet.
+fn tell_not_built<S: Sink>(alloc: Global, sink: &mut S) -> Status
+    ensures { Told not_built (S.taken sink.old) (S.taken sink.new) (S.faults sink.old) (S.faults sink.new) result }
+{
+    tell(alloc, sink, b"not built\n", Status::NotBuilt)
+}
+
+/// Assembles a text, writes its image, and puts its words.
+fn answer_asm<F: Files, S: Sink>(
     alloc: Global,
     files: &mut F,
     sink: &mut S,
@@ -65,8 +111,30 @@ fn tell_asm<F: Files, S: Sink>(
 ) -> Status
     ensures { Answers (moment (F.held files.old) (F.counts files.old) (S.taken sink.old) (S.faults sink.old)) (moment (F.held files.new) (F.counts files.new) (S.taken sink.new) (S.faults sink.new)) (Some (Asm description.now source.now image.now)) result }
 {
-    match assemble(alloc, files, description, source) {
-        Ok(made) => tell_assembled(alloc, sink, &made),
+    let made = match assemble(alloc, files, description, source) {
+        Ok(made) => made,
+        Err(refusal) => return tell_refusal(alloc, sink, &refusal),
+    };
+    match save(alloc, files, image, &made) {
+        Ok(()) => tell_assembled(alloc, sink, &made),
+        Err(refusal) => tell_refusal(alloc, sink, &refusal),
+    }
+}
+
+/// Runs an image, and puts its outputs.
+fn answer_run<F: Files, S: Sink>(
+    alloc: Global,
+    files: &mut F,
+    sink: &mut S,
+    description: &Text,
+    image: &Text,
+    input: &Text,
+    steps: u64,
+) -> Status
+    ensures { Answers (moment (F.held files.old) (F.counts files.old) (S.taken sink.old) (S.faults sink.old)) (moment (F.held files.new) (F.counts files.new) (S.taken sink.new) (S.faults sink.new)) (Some (Run description.now image.now input.now steps)) result }
+{
+    match prepare(alloc, files, description, image, input) {
+        Ok(ready) => tell_run(alloc, sink, &ready, steps),
         Err(refusal) => tell_refusal(alloc, sink, &refusal),
     }
 }

@@ -1,0 +1,79 @@
+ghost use Rattle.std.specs.Prelude.{◌≡◌, ◌&&◌, length, nat_eq, is_none, IfOk, IfErr, IsTrue, IsFalse};
+ghost use Rattle.std.specs.List.{list_all};
+ghost use Rattle.nml_suite.specs.Coming as spec;
+ghost use Rattle.nml_suite.specs.Refused.{IsDescribed, refused};
+ghost use Rattle.nml_suite.specs.Outcome.{not_built_file};
+ghost use Rattle.nml_tree.specs.Description.{description_of};
+
+use crate::purpose::Purpose;
+use crate::refusal::Refusal;
+use nk_base::{Memory, Text};
+use nml_tree::{Plain, PlainRule, plain};
+use std::alloc::Global;
+
+/// The description that the bytes of the named file spell, where it is one that is built for this purpose.
+pub fn describe<'a>(
+    alloc: Global,
+    name: &'a Text,
+    bytes: &[u8],
+    purpose: Purpose,
+) -> Result<Plain, Refusal<'a>>
+    ensures { IsDescribed purpose name.now bytes.now result }
+{
+    match plain(alloc, bytes) {
+        Ok(Some(found)) => built(name, found, purpose),
+        Ok(None) => Err(Refusal::NotBuilt(name)),
+        Err(Memory) => Err(Refusal::Memory),
+    }
+}
+
+/// The description, where it is one that is built for this purpose.
+fn built<'a>(name: &'a Text, found: Plain, purpose: Purpose) -> Result<Plain, Refusal<'a>>
+    ensures kept { IfOk result (λ p. (p ≡ found) × IsTrue (spec.is_built purpose (description_of found))) }
+    ensures other { IfErr result (λ r. (refused r ≡ not_built_file name.now) × IsFalse (spec.is_built purpose (description_of found))) }
+{
+    if is_built(&found, purpose) {
+        Ok(found)
+    } else {
+        Err(Refusal::NotBuilt(name))
+    }
+}
+
+/// Whether the description is built for this purpose: with PC, and for an assembler of rules alone too.
+fn is_built(plain: &Plain, purpose: Purpose) -> bool
+    ensures { result ≡ spec.is_built purpose (description_of plain.now) }
+{
+    match purpose {
+        Purpose::Assembling => has_pc(plain) || is_bare(plain),
+        Purpose::Running => has_pc(plain),
+    }
+}
+
+/// Whether the description declares PC.
+pub fn has_pc(plain: &Plain) -> bool
+    ensures { result ≡ spec.has_pc (description_of plain.now) }
+{
+    !plain.regs.is_empty()
+}
+
+/// Whether the description is of rules alone, without registers, a port and actions.
+fn is_bare(plain: &Plain) -> bool
+    ensures { result ≡ spec.is_bare (description_of plain.now) }
+{
+    declares_nothing(plain) && are_without_actions(&plain.rules)
+}
+
+/// Whether the description has no registers and no port.
+#[tactic(auto, using(crate::proofs::Built::none_mapped))]
+fn declares_nothing(plain: &Plain) -> bool
+    ensures { result ≡ (nat_eq (length (description_of plain.now).regs) 0 && is_none (description_of plain.now).out) }
+{
+    plain.regs.is_empty() && plain.out.is_none()
+}
+
+/// Whether no rule has an action.
+fn are_without_actions(rules: &[PlainRule]) -> bool
+    ensures { result ≡ list_all (λ r. nat_eq (length r.action.items) 0) rules.now }
+{
+    rules.iter().all(|rule| rule.action.is_empty())
+}

@@ -1,0 +1,6 @@
+/// What a description is read for.
+#[derive(Clone, Copy, Debug)]
+pub enum Purpose {
+    Assembling,
+    Running,
+}

@@ -1,0 +1,171 @@
+ghost use Rattle.std.specs.Prelude.{◌≡◌, ◌<◌, ◌++◌, length, codes, OnOk, OnErr, IsErrOf};
+ghost use Rattle.std.specs.Fmt.{signed_decimal};
+ghost use Rattle.std.specs.Option.{option_map};
+ghost use Rattle.nk_outside.specs.Count.{HasCause};
+ghost use Rattle.nk_outside.specs.Taken.{Took, TookFront};
+ghost use Rattle.nml_suite.specs.Outcome.{stop_line};
+ghost use Rattle.nml_suite.specs.Running.{IsPut, IsRun, TellsRun, opened, output_text, put_by, stop_after};
+ghost use Rattle.nml_suite.specs.Seen as spec;
+ghost use Rattle.nml_tree.specs.Description.{description_of};
+ghost use Rattle.nml_tree.specs.IsPlain.{IsPlain};
+
+use crate::Status;
+use crate::ready::Ready;
+use crate::stop::Stop;
+use crate::tell::ended;
+use bit_sim::{PlainSim, Step};
+use nk_base::{Memory, dec_into};
+use nk_outside::{Sink, WriteFault};
+use std::alloc::Global;
+
+/// Room for a line of a run: none is longer.
+const LINE: usize = 64;
+
+/// Runs the machine for at most so many steps: puts each output as it arises, and then how it stopped.
+pub fn tell_run<S: Sink>(alloc: Global, sink: &mut S, ready: &Ready, steps: u64) -> Status
+    requires plain { IsPlain (description_of ready.now.plain) }
+    requires pc { 0 < length ready.now.plain.regs.items }
+    ensures { TellsRun (opened ready.now) steps (S.taken sink.old) (S.taken sink.new) (S.faults sink.old) (S.faults sink.new) result }
+{
+    match put_run(alloc, sink, ready, steps) {
+        Ok(status) => status,
+        Err(fault) => ended(alloc, sink, Err(fault), Status::Memory),
+    }
+}
+
+/// Puts each output of the run as it arises, and then how it stopped; answers the status of that. Memory is asked for at the start.
+fn put_run<S: Sink>(
+    alloc: Global,
+    sink: &mut S,
+    ready: &Ready,
+    steps: u64,
+) -> Result<Status, WriteFault>
+    requires plain { IsPlain (description_of ready.now.plain) }
+    requires pc { 0 < length ready.now.plain.regs.items }
+    ensures run { IsRun (opened ready.now) steps (S.taken sink.old) (S.taken sink.new) result }
+    ensures failed { HasCause (S.faults sink.old) (S.faults sink.new) (IsErrOf result WriteFault.Failed) }
+{
+    let mut line = Vec::with_capacity(alloc, LINE)?;
+    let mut sim = PlainSim::open(alloc, &ready.plain, &ready.image)?;
+    let stop = put_outputs(alloc, sink, &mut sim, &mut line, steps)?;
+    put_stop(alloc, sink, &mut line, stop)?;
+    Ok(stop.status())
+}
+
+/// Puts each output of a run of at most so many steps as it arises; answers how it stopped.
+fn put_outputs<S: Sink>(
+    alloc: Global,
+    sink: &mut S,
+    sim: &mut PlainSim<'_>,
+    line: &mut Vec<u8>,
+    steps: u64,
+) -> Result<Stop, WriteFault>
+    requires { IsPlain sim.old.description }
+    ensures put { IsPut sim.old steps (S.taken sink.old) (S.taken sink.new) result }
+    ensures failed { HasCause (S.faults sink.old) (S.faults sink.new) (IsErrOf result WriteFault.Failed) }
+{
+    for turn in 0..steps {
+        let step = sim.step();
+        put_output(alloc, sink, line, output_of(step))?;
+        if let Some(stop) = stop_of(step) {
+            return Ok(stop);
+        }
+    }
+    Ok(Stop::Running)
+}
+
+/// What the step put out.
+fn output_of(step: Step) -> Option<i64>
+    ensures { result ≡ put_by step }
+{
+    match step {
+        Step::Went { out, took: _ } => out,
+        Step::Halted {
+            code: _,
+            out,
+            took: _,
+        } => out,
+        Step::Wants | Step::NoWord { pc: _ } | Step::BadWord { pc: _ } => None,
+    }
+}
+
+/// How the run stops after the step, where it does.
+fn stop_of(step: Step) -> Option<Stop>
+    ensures { option_map spec.stop_of result ≡ stop_after step }
+{
+    match step {
+        Step::Went { out: _, took: _ } | Step::Wants => None,
+        Step::Halted {
+            code,
+            out: _,
+            took: _,
+        } => Some(Stop::Halted(code)),
+        Step::NoWord { pc } => Some(Stop::NoWord(pc)),
+        Step::BadWord { pc } => Some(Stop::BadWord(pc)),
+    }
+}
+
+/// Puts the line of an output, where there is one.
+fn put_output<S: Sink>(
+    alloc: Global,
+    sink: &mut S,
+    line: &mut Vec<u8>,
+    out: Option<i64>,
+) -> Result<(), WriteFault>
+    ensures ok { OnOk result (Took (S.taken sink.old) (S.taken sink.new) (output_text out)) }
+    ensures err { OnErr result (TookFront (S.taken sink.old) (S.taken sink.new) (output_text out)) }
+    ensures failed { HasCause (S.faults sink.old) (S.faults sink.new) (IsErrOf result WriteFault.Failed) }
+{
+    match out {
+        Some(number) => put_line(alloc, sink, line, b"", i128::from(number)),
+        None => Ok(()),
+    }
+}
+
+/// Puts the line that tells how a run stopped.
+fn put_stop<S: Sink>(
+    alloc: Global,
+    sink: &mut S,
+    line: &mut Vec<u8>,
+    stop: Stop,
+) -> Result<(), WriteFault>
+    ensures ok { OnOk result (Took (S.taken sink.old) (S.taken sink.new) (stop_line (spec.stop_of stop))) }
+    ensures err { OnErr result (TookFront (S.taken sink.old) (S.taken sink.new) (stop_line (spec.stop_of stop))) }
+    ensures failed { HasCause (S.faults sink.old) (S.faults sink.new) (IsErrOf result WriteFault.Failed) }
+{
+    match stop {
+        Stop::Running => sink.put(alloc, b"running\n"),
+        Stop::Halted(code) => put_line(alloc, sink, line, b"halted ", i128::from(code)),
+        Stop::NoWord(place) => put_line(alloc, sink, line, b"no word ", i128::from(place)),
+        Stop::BadWord(place) => put_line(alloc, sink, line, b"bad word ", i128::from(place)),
+    }
+}
+
+/// Puts a line of this text and a number.
+fn put_line<S: Sink>(
+    alloc: Global,
+    sink: &mut S,
+    line: &mut Vec<u8>,
+    before: &[u8],
+    number: i128,
+) -> Result<(), WriteFault>
+    ensures ok { OnOk result (Took (S.taken sink.old) (S.taken sink.new) (before.now ++ (signed_decimal number ++ codes "\n"))) }
+    ensures err { OnErr result (TookFront (S.taken sink.old) (S.taken sink.new) (before.now ++ (signed_decimal number ++ codes "\n"))) }
+    ensures failed { HasCause (S.faults sink.old) (S.faults sink.new) (IsErrOf result WriteFault.Failed) }
+{
+    write_line(line, before, number)?;
+    sink.put(alloc, line)
+}
+
+/// Makes a line of this text and a number, in place of what was there.
+fn write_line(line: &mut Vec<u8>, before: &[u8], number: i128) -> Result<(), Memory>
+    ensures { OnOk result (line.new.items ≡ before.now ++ (signed_decimal number ++ codes "\n")) }
+{
+    let mut digits = [0; 40];
+    let length = dec_into(number, &mut digits);
+    line.clear();
+    line.extend_from_slice(before)?;
+    line.extend_from_slice(&digits[..length])?;
+    line.push(b'\n')?;
+    Ok(())
+}

@@ -1,0 +1,33 @@
+ghost use Rattle.std.specs.Prelude.{◌≡◌};
+ghost use Rattle.nml_suite.specs.Outcome.{stop_status};
+ghost use Rattle.nml_suite.specs.Seen.{stop_of};
+
+use crate::Status;
+
+/// How a run stopped, as far as it went.
+#[derive(Clone, Copy, Debug)]
+pub enum Stop {
+    /// It was still going on at its bound.
+    Running,
+    /// It halted with this code.
+    Halted(u8),
+    /// There is no word at this place.
+    NoWord(u32),
+    /// The word at this place is no instruction.
+    BadWord(u32),
+}
+
+impl Stop {
+    /// The status that the run ends with.
+    pub fn status(self) -> Status
+        ensures { result ≡ stop_status (stop_of self) }
+    {
+        match self {
+            Stop::Running => Status::Budget,
+            Stop::Halted(0) => Status::Done,
+            Stop::Halted(_) => Status::Stopped,
+            Stop::NoWord(_) => Status::NoWord,
+            Stop::BadWord(_) => Status::BadWord,
+        }
+    }
+}
