@@ -28,3 +28,8 @@ pub mod ReadNames
 pub mod ReadStmts
 pub mod ReadActions
 pub mod StmtLoop
+pub mod FormulaLaws
+pub mod BlockLaws
+pub mod Back
+pub mod SampleTrees
+pub mod EndedLaws

@@ -16,3 +16,15 @@ pub mod Cells
 pub mod Effect
 pub mod SeenWrites
 pub mod ActionReading
+pub mod Symbol
+pub mod Formula
+pub mod Block
+pub mod Spell
+pub mod SpellItems
+pub mod Level
+pub mod Depth
+pub mod SpellsTree
+pub mod Floats
+pub mod Joined
+pub mod SampleTree
+pub mod Ended
