@@ -1,0 +1,7 @@
+pub mod Spaces
+pub mod Words
+pub mod Parts
+pub mod Cuts
+pub mod Lengths
+pub mod Limits
+pub mod Begun

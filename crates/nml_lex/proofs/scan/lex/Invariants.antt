@@ -1,0 +1,10 @@
+-- the tokens so far stand in front, and the rest behind them
+use Rattle.std.proofs.Common.{length}
+use Rattle.nml_lex.proofs.Begun.{Begun}
+use Rattle.nml_lex.proofs.scan.lex.Given as goal
+
+abbrev pub invariant-loop-behind : goal.invariant-loop-behind
+invariant-loop-behind l = Begun l.bytes l.list.items l.rest
+
+abbrev pub decreases-loop-behind : goal.decreases-loop-behind
+decreases-loop-behind l = length l.rest

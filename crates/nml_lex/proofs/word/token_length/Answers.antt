@@ -1,0 +1,8 @@
+-- At a letter or an underscore the name bytes make the token.
+use Rattle.std.proofs.Common.{◌∙◌, sym}
+use Rattle.nml_lex.proofs.Lengths.{name_first}
+use Rattle.nml_lex.proofs.word.token_length.Goals as goal
+
+pub returns-then-is_name_start : goal.returns-then-is_name_start
+returns-then-is_name_start c =
+    c.name_run.ensures ∙ sym (name_first c.args.bytes.now c.in-Some.first.now c.in-Some.behind.now c.in-Some.ensures.cases.0 (sym c.is_name_start.ensures ∙ c.if-is_name_start.true))

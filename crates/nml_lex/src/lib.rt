@@ -1,0 +1,14 @@
+//! The tokens of a description's bytes.
+#![tactic(auto)]
+
+mod law;
+mod limit;
+mod prefix;
+mod scan;
+mod space;
+#[cfg(test)]
+mod tests;
+mod word;
+
+pub use law::one_lexing;
+pub use scan::{Token, Tokens, lex};
