@@ -3,6 +3,7 @@ use Rattle.std.proofs.Common.{◌≡◌, ◌⊎◌, ℕ, List, sym, ap, ◌∙�
 use Rattle.nml_tree.specs.Description.{Description}
 use Rattle.nml_tree.specs.IsPlain.{IsPlain, word_width}
 use Rattle.nml_tree.proofs.OneDescription.{one_description_holds}
+use Rattle.nml_lex.proofs.Parts.{never, place}
 use Rattle.image_file.specs.File.{Picture, Init, HasFile}
 use Rattle.image_file.proofs.OneFile.{one}
 use Rattle.asm_tool.specs.PlainText.{lines}
@@ -10,8 +11,8 @@ use Rattle.asm_tool.proofs.AssembledWords.{pc_numbers}
 use Rattle.asm_tool.proofs.Determined.{HasOneWord, one_assembly, none_fails, one_failure, both}
 use Rattle.asm_tool.proofs.Instructions.{same_word}
 use Rattle.bit_sim.proofs.OneRun.{one_run}
-use Rattle.nml_suite.specs.Coming.{Opens, Short, Opened, Spells, NoDescription, Described, AssemblesTo, NotPlain, NoMatch, Words, Loads, NoImage, Loaded, IsImageOf, RunsTo, Input, Ran, AsmComesTo, RunComesTo, picture, image_file}
-use Rattle.nml_suite.specs.Outcome.{Work, telling, unread, starved, no_match, bad_input, assembled, told_run}
+use Rattle.nml_suite.specs.Coming.{Opens, Short, Opened, Spells, NoTokens, NoDescription, Described, AssemblesTo, NotPlain, NoMatch, Words, Loads, NoImage, Loaded, IsImageOf, RunsTo, Input, Ran, AsmComesTo, RunComesTo, picture, image_file}
+use Rattle.nml_suite.specs.Outcome.{Work, telling, unread, starved, lex_fault, no_match, bad_input, assembled, told_run}
 use Rattle.nml_suite.specs.Reading.{Reading, Got, Unread, IsShort}
 use Rattle.nml_suite.specs.declared.purpose.Purpose.{Purpose}
 use Rattle.nml_suite.specs.declared.purpose.Purpose.TheVariants as purposes
@@ -39,11 +40,17 @@ opens_agree name r q goes went w v (inr e) h (Opened bytes x f) o = absurd (cc (
 
 spells_agree : (purpose : Purpose) (name bytes : List ℕ) (goes went : Description → Work → Type 0) (w v : Work) → ((d : Description) → IsPlain d → goes d w → went d v → Agrees w v)
     → Spells purpose name bytes goes w → Spells purpose name bytes went v → Agrees w v
-spells_agree purpose name bytes goes went w v h (NoDescription none e) (NoDescription no_other f) = inl (e ∙ sym f)
-spells_agree purpose name bytes goes went w v h (NoDescription none e) (Described x t f) = absurd (none x t)
-spells_agree purpose name bytes goes went w v h (Described x t f) (NoDescription none e) = absurd (none x t)
-spells_agree purpose name bytes goes went w v h (Described x t f) (Described y u g) =
-    h y u.reads.plain (subst (λ z. goes z w) (one_description_holds bytes x y t.reads u.reads) f) g
+spells_agree purpose name bytes goes went w v h (NoTokens at stuck e) (NoTokens other there f) =
+    inl (e ∙ ap (λ n. telling (lex_fault name n)) (place bytes at other stuck there) ∙ sym f)
+spells_agree purpose name bytes goes went w v h (NoTokens at stuck e) (NoDescription t none f) = absurd (never bytes t.0 at t.1 stuck)
+spells_agree purpose name bytes goes went w v h (NoTokens at stuck e) (Described t x d f) = absurd (never bytes t.0 at t.1 stuck)
+spells_agree purpose name bytes goes went w v h (NoDescription t none e) (NoTokens at stuck f) = absurd (never bytes t.0 at t.1 stuck)
+spells_agree purpose name bytes goes went w v h (NoDescription t none e) (NoDescription u no_other f) = inl (e ∙ sym f)
+spells_agree purpose name bytes goes went w v h (NoDescription t none e) (Described u x d f) = absurd (none x d)
+spells_agree purpose name bytes goes went w v h (Described t x d f) (NoTokens at stuck e) = absurd (never bytes t.0 at t.1 stuck)
+spells_agree purpose name bytes goes went w v h (Described t x d f) (NoDescription u none e) = absurd (none x d)
+spells_agree purpose name bytes goes went w v h (Described t x d f) (Described u y e g) =
+    h y e.reads.plain (subst (λ z. goes z w) (one_description_holds bytes x y d.reads e.reads) f) g
 
 -- ---- `asm`
 

@@ -12,7 +12,7 @@ use Rattle.nml_tree.specs.declared.rules.PlainRule.{PlainRule}
 use Rattle.nml_tree.proofs.OneDescription.{one_description_holds}
 use Rattle.nml_suite.specs.Coming.{is_built}
 use Rattle.nml_suite.specs.Outcome.{not_built_file}
-use Rattle.nml_suite.specs.Refused.{IsDescribed, refused}
+use Rattle.nml_suite.specs.Refused.{IsSpelled, refused}
 use Rattle.nml_suite.specs.declared.purpose.Purpose.{Purpose}
 use Rattle.nml_suite.specs.declared.refusal.Refusal.{Refusal}
 
@@ -29,8 +29,8 @@ none_mapped (Some f) = refl
 -- where the bytes spell this description, which isn't built, they spell none that is
 pub described_by : (purpose : Purpose) (name bytes : List ℕ) (p : Plain) (r : Result Plain Refusal) → ReadsAs bytes (description_of p)
     → IfOk r (λ q. (q ≡ p) × IsTrue (is_built purpose (description_of p)))
-    → IfErr r (λ e. (refused e ≡ not_built_file name) × IsFalse (is_built purpose (description_of p))) → IsDescribed purpose name bytes r
+    → IfErr r (λ e. (refused e ≡ not_built_file name) × IsFalse (is_built purpose (description_of p))) → IsSpelled purpose name bytes r
 described_by purpose name bytes p (Ok q) reads kept other =
-    subst (λ z. IsDescribed purpose name bytes (Ok z)) (sym kept.0) (record { reads = reads; built = kept.1 })
+    subst (λ z. IsSpelled purpose name bytes (Ok z)) (sym kept.0) (record { reads = reads; built = kept.1 })
 described_by purpose name bytes p (Err e) reads kept other =
     inr (other.0, λ d w. false≢true (sym other.1 ∙ ap (is_built purpose) (one_description_holds bytes (description_of p) d reads w.reads) ∙ w.built))

@@ -4,6 +4,7 @@ pub mod Built
 pub mod Causes
 pub mod Completeness
 pub mod Composing
+pub mod Describing
 pub mod Images
 pub mod Lines
 pub mod Outputs

@@ -5,6 +5,7 @@ use Rattle.nk_outside.specs.Held.{Names, Reads, Lacks, IsTooLong, SameElsewhere,
 use Rattle.nk_outside.specs.Taken.{Took}
 use Rattle.nml_tree.specs.Description.{Description}
 use Rattle.nml_tree.specs.IsPlain.{word_width}
+use Rattle.nml_lex.specs.Lexed.{IsStuckAt}
 use Rattle.image_file.specs.File.{Picture}
 use Rattle.asm_tool.specs.Assembly.{Assembles, FailsAt, is_fit}
 use Rattle.asm_tool.specs.PlainText.{lines}
@@ -14,7 +15,7 @@ use Rattle.nml_suite.specs.Answer.{Moment, KeepsFiles, HasWritten, IsSaved}
 use Rattle.nml_suite.specs.Coming.{Describes, IsImageOf, AsmComesTo, RunComesTo, first_input, image_file}
 use Rattle.nml_suite.specs.Told.{EndsIn}
 use Rattle.nml_suite.specs.Form.{Form, Check, Asm, Dis, Run, Cc, Ceval, Demo}
-use Rattle.nml_suite.specs.Outcome.{Work, Written, usage_line, not_built, not_built_file, no_match, bad_input, assembled, told_run}
+use Rattle.nml_suite.specs.Outcome.{Work, Written, usage_line, lex_fault, not_built, not_built_file, no_match, bad_input, assembled, told_run}
 use Rattle.nml_suite.specs.Reading.{Reading, Got, Absent, TooLong}
 use Rattle.nml_suite.specs.declared.purpose.Purpose.TheVariants as purposes
 use Rattle.nml_suite.specs.declared.status.Status.{Status}
@@ -25,6 +26,12 @@ abbrev pub NamesToRead : Option Form → List ℕ → Type 0
 NamesToRead (Some (Asm d s i)) name = (name ≡ d) ⊎ (name ≡ s)
 NamesToRead (Some (Run d i x n)) name = (name ≡ d) ⊎ ((name ≡ i) ⊎ (name ≡ x))
 NamesToRead _ name = ⊥
+
+-- the words name this file as their description
+abbrev pub NamesDescription : Option Form → List ℕ → Type 0
+NamesDescription (Some (Asm d s i)) name = name ≡ d
+NamesDescription (Some (Run d i x n)) name = name ≡ d
+NamesDescription _ name = ⊥
 
 -- the command isn't built
 abbrev pub IsOther : Option Form → Type 0
@@ -58,6 +65,16 @@ pub record HasLongFile (before now : Moment) (form : Option Form) : Type 0 where
   pub named : NamesToRead form name
   pub long : IsTooLong before.store.held name
   pub text : Took before.taken now.taken (name ++ codes ": too long\n")
+
+-- the description was read, and its bytes are stuck at the place that is told
+pub record HasNoTokens (before now : Moment) (form : Option Form) : Type 0 where
+  pub name : List ℕ
+  pub named : NamesDescription form name
+  pub bytes : List ℕ
+  pub read : Reads before.store.held name bytes
+  pub at : ℕ
+  pub stuck : IsStuckAt bytes at
+  pub text : Took before.taken now.taken (lex_fault name at).text
 
 -- ---- `asm`
 
@@ -193,6 +210,7 @@ HasCause before now form statuses.TooLong = HasLongFile before now form
 HasCause before now form statuses.NotBuilt =
     (IsOther form × Took before.taken now.taken not_built.text)
     ⊎ ((HasOtherDescription before now form ⊎ HasOtherText before now form) ⊎ (HasNoMachine before now form ⊎ HasNoImage before now form))
+HasCause before now form statuses.Description = HasNoTokens before now form
 HasCause before now form statuses.Source = HasBadLine before now form
 HasCause before now form statuses.Input = HasBadInput before now form
 HasCause before now form statuses.Done = HasWords before now form ⊎ HasRun before now form (λ s. s ≡ Halted 0)
@@ -202,7 +220,6 @@ HasCause before now form statuses.NoWord = HasRun before now form IsNoWordStop
 HasCause before now form statuses.BadWord = HasRun before now form IsBadWordStop
 HasCause before now form statuses.Write = Rose before.faults now.faults ⊎ Rose before.store.counts.write_faults now.store.counts.write_faults
 HasCause before now form statuses.Memory = Unit {0}
-HasCause before now form statuses.Description = ⊥
 HasCause before now form statuses.Image = ⊥
 HasCause before now form statuses.NotClosed = ⊥
 HasCause before now form statuses.Words = ⊥

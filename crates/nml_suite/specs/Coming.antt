@@ -6,6 +6,7 @@ use Rattle.nk_base.specs.Byte.{is_blank}
 use Rattle.nml_tree.specs.Description.{Description}
 use Rattle.nml_tree.specs.IsPlain.{word_width, pc_width}
 use Rattle.nml_tree.specs.ReadAs.{ReadsAs}
+use Rattle.nml_lex.specs.Lexed.{Piece, HasPieces, IsStuckAt}
 use Rattle.image_file.specs.File.{Picture, IsPlainImage, file}
 use Rattle.asm_tool.specs.Assembly.{Assembles, FailsAt, is_fit}
 use Rattle.asm_tool.specs.PlainText.{lines}
@@ -13,7 +14,7 @@ use Rattle.bit_sim.specs.Machine.{Runs, beginning}
 use Rattle.bit_sim.specs.Machine as machine
 use Rattle.nml_suite.specs.Form.{Form, Check, Asm, Dis, Run, Cc, Ceval, Demo}
 use Rattle.nml_suite.specs.Reading.{Reading, Got, IsShort}
-use Rattle.nml_suite.specs.Outcome.{Work, Written, outcome, telling, unread, usage_line, not_built, not_built_file, no_match, bad_input, assembled, told_run}
+use Rattle.nml_suite.specs.Outcome.{Work, Written, outcome, telling, unread, usage_line, lex_fault, not_built, not_built_file, no_match, bad_input, assembled, told_run}
 use Rattle.nml_suite.specs.declared.purpose.Purpose.{Purpose}
 use Rattle.nml_suite.specs.declared.purpose.Purpose.TheVariants as purposes
 use Rattle.nml_suite.specs.declared.status.Status.TheVariants as statuses
@@ -43,10 +44,16 @@ pub record Describes (purpose : Purpose) (bytes : List ℕ) (d : Description) : 
   pub reads : ReadsAs bytes d
   pub built : IsTrue (is_built purpose d)
 
--- The bytes are looked at as a description: where they spell none that is built the call ends with that, else it goes on with it.
+-- the bytes have tokens
+abbrev pub HasTokens : List ℕ → Type 0
+HasTokens bytes = (ps : List Piece) × HasPieces bytes ps
+
+-- The bytes are looked at as a description: where they have no tokens, or spell none that is built, the call ends with that, else it goes on
+-- with it.
 pub data Spells (purpose : Purpose) (name bytes : List ℕ) (goes : Description → Work → Type 0) (w : Work) : Type 0 where
-  NoDescription : ((d : Description) → Describes purpose bytes d → ⊥) → w ≡ telling (not_built_file name) → Spells purpose name bytes goes w
-  Described : (d : Description) → Describes purpose bytes d → goes d w → Spells purpose name bytes goes w
+  NoTokens : (at : ℕ) → IsStuckAt bytes at → w ≡ telling (lex_fault name at) → Spells purpose name bytes goes w
+  NoDescription : HasTokens bytes → ((d : Description) → Describes purpose bytes d → ⊥) → w ≡ telling (not_built_file name) → Spells purpose name bytes goes w
+  Described : HasTokens bytes → (d : Description) → Describes purpose bytes d → goes d w → Spells purpose name bytes goes w
 
 -- ---- `asm`
 

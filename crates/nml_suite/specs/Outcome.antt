@@ -41,6 +41,10 @@ usage_line = codes "usage: check D, asm D S I, dis D I, run D I X n, cc D C I, c
 abbrev pub not_built : Outcome
 not_built = outcome statuses.NotBuilt (codes "not built\n")
 
+-- the byte at this place of a description begins no token, or its token is over its limit
+abbrev pub lex_fault : List ℕ → ℕ → Outcome
+lex_fault name at = outcome statuses.Description (name ++ codes ": N1 Lex " ++ decimal at ++ codes "\n")
+
 -- a file that isn't of the form that is built
 abbrev pub not_built_file : List ℕ → Outcome
 not_built_file name = outcome statuses.NotBuilt (name ++ codes ": not built\n")

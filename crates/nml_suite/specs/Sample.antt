@@ -7,7 +7,7 @@ use Rattle.asm_tool.specs.PlainText.{lines}
 use Rattle.bit_sim.specs.Sample as runs
 use Rattle.nml_suite.specs.Coming.{RunsTo, Input, Ran, first_input, image_file, is_built, picture}
 use Rattle.nml_suite.specs.Form.{Asm, Run, Demo, form_of}
-use Rattle.nml_suite.specs.Outcome.{outcome, output_lines, telling, word_lines}
+use Rattle.nml_suite.specs.Outcome.{lex_fault, outcome, output_lines, telling, word_lines}
 use Rattle.nml_suite.specs.declared.purpose.Purpose.TheVariants as purposes
 use Rattle.nml_suite.specs.declared.status.Status.TheVariants as statuses
 
@@ -40,6 +40,10 @@ two_words = refl
 two_outputs : output_lines (pos 5 ∷ negsuc 127 ∷ []) ≡ codes "5\n-128\n"
 unfolding digits
 two_outputs = refl
+
+stuck_line : (lex_fault (codes "m") 19).text ≡ codes "m: N1 Lex 19\n"
+unfolding digits
+stuck_line = refl
 
 -- rules alone are assembled and not run
 assembles_rules : is_built purposes.Assembling sample.machine ≡ true

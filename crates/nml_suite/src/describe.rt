@@ -1,24 +1,53 @@
-ghost use Rattle.std.specs.Prelude.{◌≡◌, ◌&&◌, length, nat_eq, is_none, IfOk, IfErr, IsTrue, IsFalse};
+ghost use Rattle.std.specs.Prelude.{◌≡◌, ◌≤◌, ◌&&◌, length, nat_eq, is_none, IfOk, IfErr, IsTrue, IsFalse};
 ghost use Rattle.std.specs.List.{list_all};
 ghost use Rattle.nml_suite.specs.Coming as spec;
-ghost use Rattle.nml_suite.specs.Refused.{IsDescribed, refused};
+ghost use Rattle.nk_outside.specs.Held.{file_limit};
+ghost use Rattle.nml_suite.specs.Refused.{IsDescribed, IsLexed, IsSpelled, refused};
 ghost use Rattle.nml_suite.specs.Outcome.{not_built_file};
 ghost use Rattle.nml_tree.specs.Description.{description_of};
 
 use crate::purpose::Purpose;
 use crate::refusal::Refusal;
 use nk_base::{Memory, Text};
-use nml_tree::{Plain, PlainRule, plain};
+use nml_lex::lex;
+use nml_tree::{DescFault, Plain, PlainRule, plain};
 use std::alloc::Global;
 
-/// The description that the bytes of the named file spell, where it is one that is built for this purpose.
+/// The description that the bytes of the named file spell, where it is one that is built for this purpose. Bytes without tokens are refused
+/// first.
 pub fn describe<'a>(
     alloc: Global,
     name: &'a Text,
     bytes: &[u8],
     purpose: Purpose,
 ) -> Result<Plain, Refusal<'a>>
+    requires { length bytes.now ≤ file_limit }
     ensures { IsDescribed purpose name.now bytes.now result }
+{
+    refuse_bytes(alloc, name, bytes)?;
+    spelled(alloc, name, bytes, purpose)
+}
+
+/// Refuses the bytes of the named file where they have no tokens.
+fn refuse_bytes<'a>(alloc: Global, name: &'a Text, bytes: &[u8]) -> Result<(), Refusal<'a>>
+    requires { length bytes.now ≤ file_limit }
+    ensures { IsLexed name.now bytes.now result }
+{
+    match lex(alloc, bytes) {
+        Ok(_) => Ok(()),
+        Err(DescFault::Lex { at }) => Err(Refusal::Lex(name, at)),
+        Err(DescFault::Memory) => Err(Refusal::Memory),
+    }
+}
+
+/// The description that the bytes of the named file spell, where it is one that is built for this purpose.
+fn spelled<'a>(
+    alloc: Global,
+    name: &'a Text,
+    bytes: &[u8],
+    purpose: Purpose,
+) -> Result<Plain, Refusal<'a>>
+    ensures { IsSpelled purpose name.now bytes.now result }
 {
     match plain(alloc, bytes) {
         Ok(Some(found)) => built(name, found, purpose),

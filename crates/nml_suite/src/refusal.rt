@@ -15,6 +15,8 @@ pub enum Refusal<'a> {
     TooLong(&'a Text),
     /// The write of the file failed.
     Unwritten(&'a Text),
+    /// The byte at the place of a description begins no token, or its token is over its limit.
+    Lex(&'a Text, u32),
     NotBuilt(&'a Text),
     /// No instruction has the tokens of the line.
     NoMatch(&'a Text, u64),
@@ -32,6 +34,7 @@ impl Refusal<'_> {
             Refusal::Absent(_) | Refusal::Failed(_) => Status::Read,
             Refusal::TooLong(_) => Status::TooLong,
             Refusal::Unwritten(_) => Status::Write,
+            Refusal::Lex(_, _) => Status::Description,
             Refusal::NotBuilt(_) => Status::NotBuilt,
             Refusal::NoMatch(_, _) => Status::Source,
             Refusal::Input(_, _) => Status::Input,
@@ -48,9 +51,10 @@ impl Refusal<'_> {
             Refusal::Failed(name) => named(alloc, name, b": read failed\n"),
             Refusal::TooLong(name) => named(alloc, name, b": too long\n"),
             Refusal::Unwritten(name) => named(alloc, name, b": write failed\n"),
+            Refusal::Lex(name, at) => numbered(alloc, name, b": N1 Lex ", u64::from(*at)),
             Refusal::NotBuilt(name) => named(alloc, name, b": not built\n"),
-            Refusal::NoMatch(name, line) => at_line(alloc, name, b": S3 NoMatch ", *line),
-            Refusal::Input(name, line) => at_line(alloc, name, b": Input ", *line),
+            Refusal::NoMatch(name, line) => numbered(alloc, name, b": S3 NoMatch ", *line),
+            Refusal::Input(name, line) => numbered(alloc, name, b": Input ", *line),
         }
     }
 }
@@ -64,8 +68,8 @@ fn named(alloc: Global, name: &Text, rest: &[u8]) -> Result<Text, Memory>
     Ok(line)
 }
 
-/// A name, what stands behind it, and the number of a line.
-fn at_line(alloc: Global, name: &Text, fault: &[u8], number: u64) -> Result<Text, Memory>
+/// A name, what stands behind it, and a number: that of a line, or a place.
+fn numbered(alloc: Global, name: &Text, fault: &[u8], number: u64) -> Result<Text, Memory>
     ensures { IfOk result (λ t. t ≡ name.now ++ (fault.now ++ (decimal number ++ codes "\n"))) }
 {
     let mut line = named(alloc, name, fault)?;

@@ -78,9 +78,10 @@ op hlt(k: card(2))
   action = { halt(k); }
 ";
 
-/// A text for M1, and what stands behind the digest in its image: no other bytes are its.
+/// A text for M1.
 const SOURCE: &str = "ldi 5\nouta\nhlt 0\n";
 
+/// What stands behind the digest in its image: how many words, the words, and no data cells.
 const WORDS: &[u8] = b"\0\0\0\x03\x01\x05\x02\0\0\0\0\0\0\0";
 
 const USAGE: &str =
@@ -344,6 +345,8 @@ fn tells_files_apart(rt: HostRuntime) -> Result<(), Fail> {
         ("m1", M1.as_bytes()),
         ("spaced", spaced.as_bytes()),
         ("action", ACTION.as_bytes()),
+        ("broken", b"reg \"".as_slice()),
+        ("comment", b"reg /* PC".as_slice()),
         ("s", SOURCE.as_bytes()),
         ("image", image.as_slice()),
         ("cut", cut.as_slice()),
@@ -361,6 +364,12 @@ fn tells_files_apart(rt: HostRuntime) -> Result<(), Fail> {
         ("asm long s i", Status::TooLong, "long: too long\n", 1),
         ("asm m1 long i", Status::TooLong, "long: too long\n", 2),
         ("asm s s i", Status::NotBuilt, "s: not built\n", 1),
+        (
+            "asm broken s i",
+            Status::Description,
+            "broken: N1 Lex 4\n",
+            1,
+        ),
         ("asm action s i", Status::NotBuilt, "action: not built\n", 1),
         ("run absent image x 5", Status::Read, "absent: absent\n", 1),
         ("run m1 absent x 5", Status::Read, "absent: absent\n", 2),
@@ -374,6 +383,12 @@ fn tells_files_apart(rt: HostRuntime) -> Result<(), Fail> {
             3,
         ),
         ("run m0 image x 5", Status::NotBuilt, "m0: not built\n", 1),
+        (
+            "run comment image x 5",
+            Status::Description,
+            "comment: N1 Lex 4\n",
+            1,
+        ),
         ("run m1 cut x 5", Status::NotBuilt, "cut: not built\n", 2),
         (
             "run m1 longer x 5",
@@ -396,7 +411,7 @@ fn tells_files_apart(rt: HostRuntime) -> Result<(), Fail> {
         let (answer, told) = call(alloc, line, &mut files, 0)?;
         assert_eq!(rt; answer, status, "{line}");
         assert_eq!(rt; told.as_slice(), text.as_bytes(), "{line}");
-        assert_eq!(rt; (files.calls, files.files.len()), (calls, 14), "{line}");
+        assert_eq!(rt; (files.calls, files.files.len()), (calls, 16), "{line}");
     }
     Ok(())
 }

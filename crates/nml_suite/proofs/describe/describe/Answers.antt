@@ -1,11 +1,11 @@
-use Rattle.std.proofs.Common.{inr, refl}
-use Rattle.nml_suite.proofs.Built.{described_by}
+use Rattle.std.proofs.lemmas.Result.{err_from_is_err_and}
+use Rattle.nml_suite.proofs.Describing.{not_lexed, lexed}
 use Rattle.nml_suite.proofs.describe.describe.Goals as goal
 
-pub returns-in-Ok-Some : goal.returns-in-Ok-Some
-returns-in-Ok-Some c =
-    described_by c.args.purpose c.args.name.now c.args.bytes.now c.in-Ok-Some.found c.built.result
-    (rw c.in-Ok-Some.field-0-is at c.in-Ok-Some.ensures) c.built.ensures.kept c.built.ensures.other
+pub returns-in_err-refuse_bytes : goal.returns-in_err-refuse_bytes
+returns-in_err-refuse_bytes c =
+    let p = err_from_is_err_and c.from_residual.result c.from_residual.ensures.1 in
+    rw (p.1, p.2) (not_lexed c.args.purpose c.args.name.now c.args.bytes.now _ c.in_err-refuse_bytes.ensures)
 
-pub returns-in-Ok-None : goal.returns-in-Ok-None
-returns-in-Ok-None c = let none = rw c.in-Ok-None.field-0-is at c.in-Ok-None.ensures in inr (refl, λ d w. none d w.reads)
+pub returns : goal.returns
+returns c = lexed c.args.purpose c.args.name.now c.args.bytes.now c.spelled.result c.in_ok-refuse_bytes.ensures c.spelled.ensures
