@@ -1,0 +1,13 @@
+pub mod Symbols
+pub mod Keeps
+pub mod Flat
+pub mod Complete
+pub mod Sound
+pub mod Local
+pub mod FlatStatements
+pub mod KeepsStatements
+pub mod CompleteStatements
+pub mod SoundStatements
+pub mod LocalStatements
+pub mod Settled
+pub mod Viable

@@ -1,0 +1,6 @@
+//! The tree of a description's tokens.
+#![tactic(auto)]
+
+mod law;
+
+pub use law::{one_block, one_expression};
