@@ -11,3 +11,6 @@ pub mod SoundStatements
 pub mod LocalStatements
 pub mod Settled
 pub mod Viable
+pub mod OneAttribute
+pub mod ItemFront
+pub mod OneItem

@@ -3,4 +3,4 @@
 
 mod law;
 
-pub use law::{one_block, one_expression};
+pub use law::{one_block, one_expression, one_tree};
