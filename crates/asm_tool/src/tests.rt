@@ -1,22 +1,10 @@
 //! That `plain_words` succeeds where there is enough memory, and what it then gives.
 
 use crate::{PlainFault, plain_words};
-use nml_tree::plain;
+use nk_base::{Text, Ty};
+use nml_tree::{Plain, PlainField, PlainRule, is_plain};
 use std::alloc::Global;
 use std::test::Fail;
-
-/// Three instructions with words of ten bits.
-const MACHINE: &str = "op instruction = ldi | outa | hlt
-op ldi(n: int(8)) syntax = format(\"ldi %d\", n) image = format(\"01%8b\", n)
-op outa() syntax = \"outa\" image = \"1000000000\"
-op hlt(k: card(2)) syntax = format(\"hlt %d\", k) image = format(\"00000000%2b\", k)
-";
-
-/// One instruction, and a PC of two numbers.
-const SHORT: &str = "reg PC[1, card(1)]
-op instruction = outa
-op outa() syntax = \"outa\" image = \"10000000\"
-";
 
 #[test]
 fn assembles_texts(rt: HostRuntime) -> Result<(), Fail> {
@@ -28,34 +16,92 @@ fn assembles_texts(rt: HostRuntime) -> Result<(), Fail> {
         ("\nouta\nhlt 4", Err(PlainFault::NoMatch { line: 3 })),
         ("ldi \"5\"", Err(PlainFault::NotBuilt)),
     ];
+    let machine = machine(rt.alloc())?;
     for (text, expected) in cases {
-        assembles(rt.alloc(), MACHINE, text, expected)?;
+        assembles(rt.alloc(), &machine, text, expected)?;
     }
     Ok(())
 }
 
 #[test]
 fn has_a_number_of_pc_for_each_word(rt: HostRuntime) -> Result<(), Fail> {
-    assembles(rt.alloc(), SHORT, "outa\n\nouta\n", Ok(&[0x80, 0x80]))?;
+    let short = short_machine(rt.alloc())?;
+    assembles(rt.alloc(), &short, "outa\n\nouta\n", Ok(&[0x80, 0x80]))?;
     assembles(
         rt.alloc(),
-        SHORT,
+        &short,
         "outa\nouta\nouta",
         Err(PlainFault::NotBuilt),
     )
 }
 
-/// Fails where the text has another answer by the description.
+/// Three instructions with words of ten bits.
+fn machine(alloc: Global) -> Result<Plain, Fail> {
+    let mut rules = Vec::new(alloc);
+    let n = field(alloc, "n", Ty::Int(8))?;
+    rules.push(rule(alloc, "ldi", Some(n), "ldi %d", "01%8b")?)?;
+    rules.push(rule(alloc, "outa", None, "outa", "1000000000")?)?;
+    let k = field(alloc, "k", Ty::Card(2))?;
+    rules.push(rule(alloc, "hlt", Some(k), "hlt %d", "00000000%2b")?)?;
+    let regs = Vec::new(alloc);
+    Ok(Plain {
+        regs,
+        out: None,
+        rules,
+    })
+}
+
+/// One instruction, and a PC of two numbers.
+fn short_machine(alloc: Global) -> Result<Plain, Fail> {
+    let mut regs = Vec::new(alloc);
+    regs.push(field(alloc, "PC", Ty::Card(1))?)?;
+    let mut rules = Vec::new(alloc);
+    rules.push(rule(alloc, "outa", None, "outa", "10000000")?)?;
+    Ok(Plain {
+        regs,
+        out: None,
+        rules,
+    })
+}
+
+/// A rule without an action.
+fn rule(
+    alloc: Global,
+    name: &str,
+    field: Option<PlainField>,
+    syntax: &str,
+    image: &str,
+) -> Result<PlainRule, Fail> {
+    let mut fields = Vec::new(alloc);
+    if let Some(field) = field {
+        fields.push(field)?;
+    }
+    Ok(PlainRule {
+        name: Text::from_bytes(alloc, name.as_bytes())?,
+        fields,
+        syntax: Text::from_bytes(alloc, syntax.as_bytes())?,
+        image: Text::from_bytes(alloc, image.as_bytes())?,
+        action: Vec::new(alloc),
+    })
+}
+
+/// A field or a register.
+fn field(alloc: Global, name: &str, ty: Ty) -> Result<PlainField, Fail> {
+    let name = Text::from_bytes(alloc, name.as_bytes())?;
+    Ok(PlainField { name, ty })
+}
+
+/// Fails where the text has another answer by the machine.
 fn assembles(
     alloc: Global,
-    description: &str,
+    machine: &Plain,
     text: &str,
     expected: Result<&[u128], PlainFault>,
 ) -> Result<(), Fail> {
-    let Some(machine) = plain(alloc, description.as_bytes())? else {
+    if !is_plain(alloc, machine)? {
         return Err(Fail::new("the description isn't plain"));
-    };
-    let answer = plain_words(alloc, &machine, text.as_bytes());
+    }
+    let answer = plain_words(alloc, machine, text.as_bytes());
     let words = match &answer {
         Ok(words) => Ok(words.as_slice()),
         Err(fault) => Err(*fault),

@@ -2,16 +2,10 @@
 
 use crate::{PlainSim, Step};
 use image_file::Image;
-use nml_tree::plain;
+use nk_base::{Text, Ty};
+use nml_tree::{Plain, PlainField, PlainRule, PlainStmt, PlainValue, is_plain};
+use std::alloc::Global;
 use std::test::Fail;
-
-/// A machine of three instructions, with words of 10 bits and a program counter of 4.
-const MACHINE: &[u8] = b"reg PC[1, card(4)] reg A[1, int(8)] out OUT[int(8)]
-op instruction = ldi | outa | hlt
-op ldi(n: int(8)) syntax = format(\"ldi %d\", n) image = format(\"01%8b\", n) action = { A = n; }
-op outa() syntax = \"outa\" image = \"1000000000\" action = { OUT = A; }
-op hlt(k: card(2)) syntax = format(\"hlt %d\", k) image = format(\"00000000%2b\", k) action = { halt(k); }
-";
 
 /// A step that ran and went on.
 fn went(out: Option<i64>) -> Step {
@@ -54,9 +48,9 @@ fn steps_answer(rt: HostRuntime) -> Result<(), Fail> {
             ],
         ),
     ];
-    let machine = plain(rt.alloc(), MACHINE)?.ok_or("the text is a description")?;
-    if machine.regs.is_empty() {
-        return Err("the machine has registers".into());
+    let machine = machine(rt.alloc())?;
+    if !is_plain(rt.alloc(), &machine)? || machine.regs.is_empty() {
+        return Err("the machine is plain and has registers".into());
     }
     for (words, steps) in rows {
         let image = Image {
@@ -71,4 +65,55 @@ fn steps_answer(rt: HostRuntime) -> Result<(), Fail> {
         }
     }
     Ok(())
+}
+
+/// A machine of three instructions, with words of 10 bits and a program counter of 4.
+fn machine(alloc: Global) -> Result<Plain, Fail> {
+    let mut regs = Vec::new(alloc);
+    regs.push(field(alloc, "PC", Ty::Card(4))?)?;
+    regs.push(field(alloc, "A", Ty::Int(8))?)?;
+    let out = Some(field(alloc, "OUT", Ty::Int(8))?);
+    let mut rules = Vec::new(alloc);
+    let n = field(alloc, "n", Ty::Int(8))?;
+    let load = PlainStmt::Reg(1, PlainValue::Field(0));
+    rules.push(rule(alloc, "ldi", Some(n), ["ldi %d", "01%8b"], load)?)?;
+    let put = PlainStmt::Out(PlainValue::Reg(1));
+    rules.push(rule(alloc, "outa", None, ["outa", "1000000000"], put)?)?;
+    let k = field(alloc, "k", Ty::Card(2))?;
+    let halt = PlainStmt::Halt(PlainValue::Field(0));
+    rules.push(rule(alloc, "hlt", Some(k), ["hlt %d", "00000000%2b"], halt)?)?;
+    Ok(Plain { regs, out, rules })
+}
+
+/// A rule of one statement, with its syntax and its image.
+fn rule(
+    alloc: Global,
+    name: &str,
+    field: Option<PlainField>,
+    [syntax, image]: [&str; 2],
+    stmt: PlainStmt,
+) -> Result<PlainRule, Fail> {
+    let mut fields = Vec::new(alloc);
+    if let Some(field) = field {
+        fields.push(field)?;
+    }
+    let mut action = Vec::new(alloc);
+    action.push(stmt)?;
+    Ok(PlainRule {
+        name: text(alloc, name)?,
+        fields,
+        syntax: text(alloc, syntax)?,
+        image: text(alloc, image)?,
+        action,
+    })
+}
+
+/// A field, a register or a port.
+fn field(alloc: Global, name: &str, ty: Ty) -> Result<PlainField, Fail> {
+    let name = text(alloc, name)?;
+    Ok(PlainField { name, ty })
+}
+
+fn text(alloc: Global, text: &str) -> Result<Text, Fail> {
+    Ok(Text::from_bytes(alloc, text.as_bytes())?)
 }

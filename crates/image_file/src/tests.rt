@@ -2,7 +2,9 @@
 
 use crate::reader::read_words;
 use crate::{Image, plain_read, write};
-use nml_tree::plain;
+use nk_base::{Text, Ty};
+use nml_tree::{Plain, PlainField, PlainRule, is_plain};
+use std::alloc::Global;
 use std::test::Fail;
 
 #[test]
@@ -36,12 +38,6 @@ fn calls_succeed(rt: HostRuntime) -> Result<(), Fail> {
     Ok(())
 }
 
-/// A machine with words of 10 bits and a program counter of 4.
-const MACHINE: &[u8] = b"reg PC[1, card(4)]
-op instruction = ldi
-op ldi(n: int(8)) syntax = format(\"ldi %d\", n) image = format(\"01%8b\", n)
-";
-
 #[test]
 fn reads_for_a_description(rt: HostRuntime) -> Result<(), Fail> {
     let digest = [0u8; 32];
@@ -52,9 +48,9 @@ fn reads_for_a_description(rt: HostRuntime) -> Result<(), Fail> {
         inits: Vec::new(rt.alloc()),
     };
     let bytes = write(rt.alloc(), &image)?;
-    let machine = plain(rt.alloc(), MACHINE)?.ok_or("the text is a description")?;
-    if machine.regs.is_empty() {
-        return Err("the machine has a register".into());
+    let machine = machine(rt.alloc())?;
+    if !is_plain(rt.alloc(), &machine)? || machine.regs.is_empty() {
+        return Err("the machine is plain and has a register".into());
     }
     let read = plain_read(rt.alloc(), &bytes, &machine, &digest)?.ok_or(
         "the bytes are an image's",
@@ -62,4 +58,35 @@ fn reads_for_a_description(rt: HostRuntime) -> Result<(), Fail> {
     assert_eq!(rt; read.words.as_slice(), image.words.as_slice());
     assert!(rt; plain_read(rt.alloc(), &bytes, &machine, &[1; 32])?.is_none());
     Ok(())
+}
+
+/// A machine with words of 10 bits and a program counter of 4.
+fn machine(alloc: Global) -> Result<Plain, Fail> {
+    let mut regs = Vec::new(alloc);
+    regs.push(field(alloc, "PC", Ty::Card(4))?)?;
+    let mut fields = Vec::new(alloc);
+    fields.push(field(alloc, "n", Ty::Int(8))?)?;
+    let mut rules = Vec::new(alloc);
+    rules.push(PlainRule {
+        name: text(alloc, "ldi")?,
+        fields,
+        syntax: text(alloc, "ldi %d")?,
+        image: text(alloc, "01%8b")?,
+        action: Vec::new(alloc),
+    })?;
+    Ok(Plain {
+        regs,
+        out: None,
+        rules,
+    })
+}
+
+/// A field or a register.
+fn field(alloc: Global, name: &str, ty: Ty) -> Result<PlainField, Fail> {
+    let name = text(alloc, name)?;
+    Ok(PlainField { name, ty })
+}
+
+fn text(alloc: Global, text: &str) -> Result<Text, Fail> {
+    Ok(Text::from_bytes(alloc, text.as_bytes())?)
 }

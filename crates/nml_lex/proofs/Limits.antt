@@ -91,11 +91,11 @@ worth_is text ds r m found w e = e ∙ ap (λ n. cond (nat_lt n m) (Some n) None
 -- ---- the limits
 
 -- a text by its first byte
-first_byte : (text : List ℕ) (c : ℕ) → Some c ≡ slice_get text 0 → text ≡ c ∷ drop 1 text
+pub first_byte : (text : List ℕ) (c : ℕ) → Some c ≡ slice_get text 0 → text ≡ c ∷ drop 1 text
 first_byte [] c e = absurd (cc)
 first_byte (d ∷ t) c e = let same : d ≡ c = cc in ap (λ x. x ∷ t) same
 
-cut_first : (a b : Bool) → b ≡ false → a || b ≡ true → a ≡ true
+pub cut_first : (a b : Bool) → b ≡ false → a || b ≡ true → a ≡ true
 cut_first true b e h = refl
 cut_first false b e h = absurd (cc)
 
@@ -118,7 +118,7 @@ some_below n m = choice (nat_lt n m) n where
   choice true n = refl
   choice false n = refl
 
-number_at : (c : ℕ) (t : List ℕ) → is_ascii_digit c ≡ true → IsTrue (is_token (c ∷ t)) → nat_lt (number_of (c ∷ t)) (2 ^ 64) ≡ is_within (c ∷ t)
+pub number_at : (c : ℕ) (t : List ℕ) → is_ascii_digit c ≡ true → IsTrue (is_token (c ∷ t)) → nat_lt (number_of (c ∷ t)) (2 ^ 64) ≡ is_within (c ∷ t)
 number_at c t h k =
     sym (cond-false (is_name (c ∷ t)) (nat_le (length (c ∷ t)) 64) _ (no_name c t (digit_start c h)) ∙ cond-true (is_number (c ∷ t)) (nat_lt (number_of (c ∷ t)) (2 ^ 64)) _ (sym (number_token c t h) ∙ k))
 

@@ -11,4 +11,5 @@ mod tests;
 mod word;
 
 pub use law::one_lexing;
+pub use limit::number_value;
 pub use scan::{Token, Tokens, lex};

@@ -26,7 +26,7 @@ pub fn is_within(text: &[u8]) -> bool
     if is_name_start(*first) {
         text.len() <= NAME_LIMIT
     } else if first.is_ascii_digit() {
-        value_of_number(text).is_some()
+        number_value(text).is_some()
     } else if *first == b'"' {
         text.len() <= STRING_LIMIT + 2
     } else {
@@ -34,8 +34,10 @@ pub fn is_within(text: &[u8]) -> bool
     }
 }
 
-/// What the number is worth, where that is below 2^64.
-fn value_of_number(text: &[u8]) -> Option<u64>
+/// What a number is worth, where that is below 2^64.
+///
+/// It is decimal digits, `0x` and hexadecimal digits of either case, or `0b` and binary digits, which is this project's own rule.
+pub fn number_value(text: &[u8]) -> Option<u64>
     requires { IsTrue (spec.is_number text.now) }
     ensures { result ≡ (if nat_lt (spec.number_of text.now) (2 ^ 64) then Some (spec.number_of text.now) else None) }
 {

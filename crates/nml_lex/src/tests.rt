@@ -76,6 +76,9 @@ fn answer_to(alloc: Global, bytes: &[u8]) -> Result<Text, Fail> {
             text.push_bytes(dec(alloc, i128::from(*at))?.as_bytes())?;
         }
         Err(DescFault::Memory) => return Err(Fail::new("want of memory")),
+        Err(DescFault::Syntax { at: _ } | DescFault::Float { at: _ }) => return Err(Fail::new(
+            "no fault of tokens",
+        )),
     }
     Ok(text)
 }
@@ -117,6 +120,9 @@ fn keeps_limits(rt: HostRuntime) -> Result<(), Fail> {
             }
             Err(DescFault::Lex { at }) => assert!(rt; !is_within && *at == 0),
             Err(DescFault::Memory) => return Err(Fail::new("want of memory")),
+            Err(DescFault::Syntax { at: _ } | DescFault::Float { at: _ }) => return Err(Fail::new(
+                "no fault of tokens",
+            )),
         }
     }
     Ok(())

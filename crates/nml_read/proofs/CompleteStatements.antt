@@ -113,7 +113,7 @@ whole-Halt at p e q semicolon rest whole room s leveled deep none =
     let r = read_block rest whole room s leveled.1 (omega arith) none in
     let M : ℕ = a.0 + r.0 in
     let next : Formula → List Symbol → Read (Block → Block) = λ e s2. after (mark (codes ")") s2) (λ q s3. after (mark (codes ";") s3) (λ semicolon s4. Found (Halt at p e q semicolon) s4)) in
-    let first = room_is room from_mark (after (climb M 0 (room - 1) inside) next) (omega (arith, one_node e))
+    let first = room_is room (Symbol.Fixed at (codes "halt") ∷ from_mark) (after (climb M 0 (room - 1) inside) next) (omega (arith, one_node e))
     ∙ on (climb M 0 (room - 1) inside) e close next (Found (Halt at p e q semicolon) (block_spelling rest ++ s)) (a.1 M (omega arith)) refl in (
       suc M,
       ap (statements (suc M) room) (flat-Halt at p e q semicolon rest s)

@@ -29,8 +29,7 @@ module _ (f g : Reader) (h : (k room : ℕ) (ss : List Symbol) → Keeps (f k ro
 
   halting_keeps : (room at : ℕ) (ss : List Symbol) → Keeps (halting f room at ss) (halting g room at ss)
   halting_keeps room at ss =
-      room_keeps room ss _ _
-      (same_after (mark (codes "(") ss) _ _ _ refl (λ p s1. after_keeps (f 0 (room - 1) s1) (g 0 (room - 1) s1) _ _ (h 0 (room - 1) s1) (λ e s2. Same refl)))
+      same_after (mark (codes "(") ss) _ _ _ refl (λ p s1. after_keeps (f 0 (room - 1) s1) (g 0 (room - 1) s1) _ _ (h 0 (room - 1) s1) (λ e s2. Same refl))
 
   branch_end_keeps : (room at : ℕ) (c : Formula) (t : ℕ) (xs : Block) (ss : List Symbol) (o : Option (ℕ × List Symbol)) → Keeps (branch_end a room at c t xs ss o) (branch_end b room at c t xs ss o)
   branch_end_keeps room at c t xs ss None = Same refl
@@ -43,7 +42,7 @@ module _ (f g : Reader) (h : (k room : ℕ) (ss : List Symbol) → Keeps (f k ro
 
   statement_keeps : (room : ℕ) (here : List Symbol) (x : Start) (ss : List Symbol) → Keeps (statement f a room here x ss) (statement g b room here x ss)
   statement_keeps room here (Naming n) ss = naming_keeps room n ss (behind (codes ".") ss)
-  statement_keeps room here (Halting at) ss = halting_keeps room at ss
+  statement_keeps room here (Halting at) ss = room_keeps room here _ _ (halting_keeps room at ss)
   statement_keeps room here (Branching at) ss = room_keeps room here _ _ (branching_keeps room at ss)
 
   pub block_keeps : (room : ℕ) (here : List Symbol) (o : Option (Start × List Symbol)) → Keeps (block_from f a room here o) (block_from g b room here o)

@@ -107,7 +107,7 @@ mark_local text (Symbol.Named at other ∷ ss) = stuck_at (mark text) (Symbol.Na
 mark_local text (Symbol.Number at value ∷ ss) = stuck_at (mark text) (Symbol.Number at value) ss (λ t. refl)
 mark_local text (Symbol.Quoted at other ∷ ss) = stuck_at (mark text) (Symbol.Quoted at other) ss (λ t. refl)
 
-size_local : IsLocal size
+pub size_local : IsLocal size
 size_local [] = stuck_empty size
 size_local (Symbol.Fixed at text ∷ ss) = stuck_at size (Symbol.Fixed at text) ss (λ t. refl)
 size_local (Symbol.Named at text ∷ ss) = taken size (λ t. Found (size_case.Name (record { at = at; text = text })) t) (Symbol.Named at text) ss (λ t. refl) (found_local (size_case.Name (record { at = at; text = text })) ss)

@@ -107,10 +107,9 @@ module _ (inner : Reader) (inner_local : (k room : ℕ) → IsLocal (inner k roo
 
   halting_local : (room at : ℕ) → IsLocal (halting inner room at)
   halting_local room at =
-      tested_here (nat_le room 1) _
-      (after_local (mark (codes "(")) _ (mark_local (codes "("))
+      after_local (mark (codes "(")) _ (mark_local (codes "("))
       (λ p. after_local (inner 0 (room - 1)) _ (inner_local 0 (room - 1))
-      (λ e. after_local (mark (codes ")")) _ (mark_local (codes ")")) (λ q. ended_local (Halt at p e q)))))
+      (λ e. after_local (mark (codes ")")) _ (mark_local (codes ")")) (λ q. ended_local (Halt at p e q))))
 
   -- `if`: what stands behind `else`, and what may stand behind the first statements
   abbrev otherwise_end : ℕ → ℕ → Formula → ℕ → Block → ℕ → List Symbol → Read (Block → Block)
@@ -149,8 +148,8 @@ module _ (inner : Reader) (inner_local : (k room : ℕ) → IsLocal (inner k roo
       taken (reads_block room) (λ t. after (naming inner room n t (behind (codes ".") t)) (others room)) first ss (λ t. ap (block_from inner blocks room (first ∷ t)) (h t))
       (after_local (λ t. naming inner room n t (behind (codes ".") t)) (others room) (naming_local room n) (others_local room) ss)
   start_local room first (Halting at) ss h =
-      taken (reads_block room) (λ t. after (halting inner room at t) (others room)) first ss (λ t. ap (block_from inner blocks room (first ∷ t)) (h t))
-      (after_local (halting inner room at) (others room) (halting_local room at) (others_local room) ss)
+      tested_after (nat_le room 1) (reads_block room) (halting inner room at) (others room) first ss (λ t. ap (block_from inner blocks room (first ∷ t)) (h t))
+      (after_local (halting inner room at) (others room) (halting_local room at) (others_local room))
   start_local room first (Branching at) ss h =
       tested_after (nat_le room 1) (reads_block room) (branching inner blocks room at) (others room) first ss (λ t. ap (block_from inner blocks room (first ∷ t)) (h t))
       (after_local (branching inner blocks room at) (others room) (branching_local room at) (others_local room))
@@ -168,7 +167,7 @@ module _ (inner : Reader) (inner_local : (k room : ℕ) → IsLocal (inner k roo
   block_local room (Symbol.Quoted at text ∷ ss) = found_before (reads_block room) Done (Symbol.Quoted at text) ss (λ t. refl)
 
 -- ---- statements
-statements_local : (n room : ℕ) → IsLocal (statements n room)
+pub statements_local : (n room : ℕ) → IsLocal (statements n room)
 statements_local zero room ss = unread_locally (statements zero room) ss
 statements_local (suc n) room ss = block_local (climb n) (climb_local n) (statements n) (statements_local n) room ss
 

@@ -201,7 +201,7 @@ one_item x y r s l m h i e =
 -- ---- one description
 
 -- an item has an end before further ones, and before nothing
-next : (xs : List Item) → Next (flat_map item_spelling xs)
+pub next : (xs : List Item) → Next (flat_map item_spelling xs)
 next [] = (refl, refl)
 next (x ∷ xs) = (front x (flat_map item_spelling xs)).1
 

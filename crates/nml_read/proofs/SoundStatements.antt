@@ -144,18 +144,17 @@ naming_sound m room n ss (Some (dot, inside)) put s le i e =
     subst (λ u. SoundStatement room (Symbol.Named n.at n.text ∷ u) put s) (sym (behind_is (codes ".") ss dot inside i)) (part_sound room n dot inside put s le e)
 
 -- and what begins with a keyword
-halting_sound : (m room at : ℕ) (ss : List Symbol) (put : Block → Block) (s : List Symbol) → halting (climb m) room at ss ≡ Found put s → SoundStatement room (Symbol.Fixed at (codes "halt") ∷ ss) put s
-halting_sound m room at ss put s e =
-    let has = room_found room ss _ put s e in
-    let p = after_found (mark (codes "(") ss) _ put s has.1 in
+halting_sound : (m room at : ℕ) (ss : List Symbol) (put : Block → Block) (s : List Symbol) → 1 < room → halting (climb m) room at ss ≡ Found put s → SoundStatement room (Symbol.Fixed at (codes "halt") ∷ ss) put s
+halting_sound m room at ss put s lt e =
+    let p = after_found (mark (codes "(") ss) _ put s e in
     let a = after_found (climb m 0 (room - 1) p.1) _ put s p.3 in
     let q = after_found (mark (codes ")") a.1) _ put s a.3 in
     let c = after_found (mark (codes ";") q.1) _ put s q.3 in
-    let x = sound m 0 (room - 1) p.1 a.0 a.1 (omega arith) (omega (arith, has.0)) a.2 in
+    let x = sound m 0 (room - 1) p.1 a.0 a.1 (omega arith) (omega (arith, lt)) a.2 in
     found_is (SoundStatement room (Symbol.Fixed at (codes "halt") ∷ ss)) (Halt at p.0 a.0 q.0 c.0) put c.1 s c.3
     (λ b rest h. record {
       leveled = (x.leveled, h.leveled);
-      shallow = omega (arith, has.0, x.shallow, h.shallow);
+      shallow = omega (arith, lt, x.shallow, h.shallow);
       spelled = ap (λ u. Symbol.Fixed at (codes "halt") ∷ u) (mark_is (codes "(") ss p.0 p.1 p.2)
           ∙ ap (λ u. Symbol.Fixed at (codes "halt") ∷ Symbol.Fixed p.0 (codes "(") ∷ u) x.spelled
           ∙ ap (λ u. Symbol.Fixed at (codes "halt") ∷ Symbol.Fixed p.0 (codes "(") ∷ (formula_spelling a.0 ++ u)) (mark_is (codes ")") a.1 q.0 q.1 q.2 ∙ ap (λ u. Symbol.Fixed q.0 (codes ")") ∷ u) (mark_is (codes ";") q.1 c.0 c.1 c.2 ∙ ap (λ u. Symbol.Fixed c.0 (codes ";") ∷ u) h.spelled))
@@ -210,7 +209,7 @@ module _ (m : ℕ) (blocks : Blocks) (all_sound : IsSoundBlocks blocks) where
 
   statement_sound : (room : ℕ) (here : List Symbol) (x : Start) (ss : List Symbol) (put : Block → Block) (s : List Symbol) → 1 ≤ room → statement (climb m) blocks room here x ss ≡ Found put s → SoundStatement room (start_symbol x ∷ ss) put s
   statement_sound room here (Naming n) ss put s le e = naming_sound m room n ss (behind (codes ".") ss) put s le refl e
-  statement_sound room here (Halting at) ss put s le e = halting_sound m room at ss put s e
+  statement_sound room here (Halting at) ss put s le e = let has = room_found room here _ put s e in halting_sound m room at ss put s has.0 has.1
   statement_sound room here (Branching at) ss put s le e = let has = room_found room here _ put s e in branching_sound room at ss put s has.0 has.1
 
   -- the statement in front, and those behind it

@@ -12,7 +12,7 @@ use Rattle.nml_tree.specs.Symbol.{Symbol}
 use Rattle.nml_tree.specs.Formula.{Prefix, Fit}
 use Rattle.nml_tree.specs.Spell.{binary_mark, prefix_mark, fit_word, truth_word, size_spelling}
 use Rattle.nml_tree.specs.Level.{binary_level, unary_level}
-use Rattle.nml_tree.proofs.ReadFronts.{same_text, text_same}
+use Rattle.nml_tree.proofs.SameText.{same_text, text_same}
 use Rattle.nml_read.specs.Reading.{Found, looked_up, behind, found_or_stuck, mark, size, operators, of_level, operator, Beginning, Value, Opening, Fitting, Slice, Choice, Operation, beginnings, Stops}
 use Rattle.std.specs.Prelude.{codes}
 

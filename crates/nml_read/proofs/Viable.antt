@@ -34,45 +34,55 @@ pub record Viable (k room : ℕ) (ss rest : List Symbol) : Type 0 where
 -- ---- readings and what they may read
 
 -- what is found is of the language; where the reading is stuck, what stands before goes on to be; and something is
-record Goes {A : Type 0} (reads : List Symbol → Read A) (L : A → List Symbol → Type 0) : Type 0 where
-  found : (ss : List Symbol) (x : A) (rest : List Symbol) → reads ss ≡ Found x rest → (u : List Symbol) × (ss ≡ u ++ rest) × L x u
-  stuck : (ss rest : List Symbol) → reads ss ≡ Stuck rest → (front : List Symbol) × (further : List Symbol) × (x : A) × (ss ≡ front ++ rest) × L x (front ++ further)
-  some : (x : A) × (u : List Symbol) × L x u
+pub record Goes {A : Type 0} (reads : List Symbol → Read A) (L : A → List Symbol → Type 0) : Type 0 where
+  pub found : (ss : List Symbol) (x : A) (rest : List Symbol) → reads ss ≡ Found x rest → (u : List Symbol) × (ss ≡ u ++ rest) × L x u
+  pub stuck : (ss rest : List Symbol) → reads ss ≡ Stuck rest → (front : List Symbol) × (further : List Symbol) × (x : A) × (ss ≡ front ++ rest) × L x (front ++ further)
+  pub some : (x : A) × (u : List Symbol) × L x u
+
+-- the same of one list alone
+pub record GoesAt {A : Type 0} (ss : List Symbol) (a : Read A) (L : A → List Symbol → Type 0) : Type 0 where
+  pub found : (x : A) (rest : List Symbol) → a ≡ Found x rest → (u : List Symbol) × (ss ≡ u ++ rest) × L x u
+  pub stuck : (rest : List Symbol) → a ≡ Stuck rest → (front : List Symbol) × (further : List Symbol) × (x : A) × (ss ≡ front ++ rest) × L x (front ++ further)
+
+-- a reading on a list
+pub at_of : {A : Type 0} (reads : List Symbol → Read A) (L : A → List Symbol → Type 0) → Goes reads L → (ss : List Symbol) → GoesAt ss (reads ss) L
+at_of reads L h ss = record { found = λ x rest e. h.found ss x rest e; stuck = λ rest e. h.stuck ss rest e }
 
 -- one language behind the other
-record Then {A B : Type 0} (L : A → List Symbol → Type 0) (M : A → B → List Symbol → Type 0) (y : B) (w : List Symbol) : Type 0 where
-  item : A
-  u : List Symbol
-  v : List Symbol
-  first : L item u
-  second : M item y v
-  joined : w ≡ u ++ v
+pub record Then {A B : Type 0} (L : A → List Symbol → Type 0) (M : A → B → List Symbol → Type 0) (y : B) (w : List Symbol) : Type 0 where
+  pub item : A
+  pub u : List Symbol
+  pub v : List Symbol
+  pub first : L item u
+  pub second : M item y v
+  pub joined : w ≡ u ++ v
 
-stuck_is : {A : Type 0} (a b : List Symbol) → ◌≡◌ {A = Read A} (Stuck a) (Stuck b) → a ≡ b
+pub stuck_is : {A : Type 0} (a b : List Symbol) → ◌≡◌ {A = Read A} (Stuck a) (Stuck b) → a ≡ b
 stuck_is a b e = cc
 
-after_stuck : {A B : Type 0} (a : Read A) (next : A → List Symbol → Read B) (rest : List Symbol) → after a next ≡ Stuck rest → (a ≡ Stuck rest) ⊎ ((x : A) × (s : List Symbol) × (a ≡ Found x s) × (next x s ≡ Stuck rest))
+pub after_stuck : {A B : Type 0} (a : Read A) (next : A → List Symbol → Read B) (rest : List Symbol) → after a next ≡ Stuck rest → (a ≡ Stuck rest) ⊎ ((x : A) × (s : List Symbol) × (a ≡ Found x s) × (next x s ≡ Stuck rest))
 after_stuck (Found x s) next rest e = inr (x, s, refl, e)
 after_stuck (Stuck s) next rest e = inl (ap (λ t. Stuck t) (stuck_is s rest e))
 after_stuck Unread next rest e = absurd (cc)
 
-after_goes : {A B : Type 0} (reads : List Symbol → Read A) (next : A → List Symbol → Read B) (L : A → List Symbol → Type 0) (M : A → B → List Symbol → Type 0) → Goes reads L → ((x : A) → Goes (next x) (M x))
-    → Goes (λ t. after (reads t) next) (Then L M)
-after_goes reads next L M l h =
+-- one list before another reading
+pub after_at : {A B : Type 0} (ss : List Symbol) (a : Read A) (next : A → List Symbol → Read B) (L : A → List Symbol → Type 0) (M : A → B → List Symbol → Type 0) → GoesAt ss a L → ((x : A) → Goes (next x) (M x))
+    → GoesAt ss (after a next) (Then L M)
+after_at ss a next L M g h =
     record {
-      found = λ ss y rest e.
-          let a = after_found (reads ss) next y rest e in
-          let b = l.found ss a.0 a.1 a.2 in
-          let c = (h a.0).found a.1 y rest a.3 in
-          (b.0 ++ c.0, b.1 ∙ ap (λ t. b.0 ++ t) c.1 ∙ sym (append_assoc b.0 c.0 rest), record { item = a.0; u = b.0; v = c.0; first = b.2; second = c.2; joined = refl });
-      stuck = λ ss rest e.
+      found = λ y rest e.
+          let p = after_found a next y rest e in
+          let b = g.found p.0 p.1 p.2 in
+          let c = (h p.0).found p.1 y rest p.3 in
+          (b.0 ++ c.0, b.1 ∙ ap (λ t. b.0 ++ t) c.1 ∙ sym (append_assoc b.0 c.0 rest), record { item = p.0; u = b.0; v = c.0; first = b.2; second = c.2; joined = refl });
+      stuck = λ rest e.
           ⊎_elim
           (λ p.
-          let a = l.stuck ss rest p in
-          let c = (h a.2).some in
-          (a.0, a.1 ++ c.1, c.0, a.3, record { item = a.2; u = a.0 ++ a.1; v = c.1; first = a.4; second = c.2; joined = sym (append_assoc a.0 a.1 c.1) }))
+          let b = g.stuck rest p in
+          let c = (h b.2).some in
+          (b.0, b.1 ++ c.1, c.0, b.3, record { item = b.2; u = b.0 ++ b.1; v = c.1; first = b.4; second = c.2; joined = sym (append_assoc b.0 b.1 c.1) }))
           (λ p.
-          let b = l.found ss p.0 p.1 p.2 in
+          let b = g.found p.0 p.1 p.2 in
           let c = (h p.0).stuck p.1 rest p.3 in (
             b.0 ++ c.0,
             c.1,
@@ -80,7 +90,17 @@ after_goes reads next L M l h =
             b.1 ∙ ap (λ t. b.0 ++ t) c.3 ∙ sym (append_assoc b.0 c.0 rest),
             record { item = p.0; u = b.0; v = c.0 ++ c.1; first = b.2; second = c.4; joined = append_assoc b.0 c.0 c.1 },
           ))
-          (after_stuck (reads ss) next rest e);
+          (after_stuck a next rest e);
+    }
+
+-- one reading behind the other
+pub after_goes : {A B : Type 0} (reads : List Symbol → Read A) (next : A → List Symbol → Read B) (L : A → List Symbol → Type 0) (M : A → B → List Symbol → Type 0) → Goes reads L → ((x : A) → Goes (next x) (M x))
+    → Goes (λ t. after (reads t) next) (Then L M)
+after_goes reads next L M l h =
+    let at : (ss : List Symbol) → GoesAt ss (after (reads ss) next) (Then L M) = λ ss. after_at ss (reads ss) next L M (at_of reads L l ss) h in
+    record {
+      found = λ ss y rest e. (at ss).found y rest e;
+      stuck = λ ss rest e. (at ss).stuck rest e;
       some =
           let b = l.some in
           let c = (h b.0).some in
@@ -88,17 +108,17 @@ after_goes reads next L M l h =
     }
 
 -- a mark
-mark_stuck : (text : List ℕ) (ss rest : List Symbol) → mark text ss ≡ Stuck rest → ss ≡ rest
+pub mark_stuck : (text : List ℕ) (ss rest : List Symbol) → mark text ss ≡ Stuck rest → ss ≡ rest
 mark_stuck text ss rest e = by (behind text ss) e
   where
     by : (o : Option (ℕ × List Symbol)) → found_or_stuck ss o ≡ Stuck rest → ss ≡ rest
     by None f = cc
     by (Some (at, s)) f = absurd (cc)
 
-abbrev IsMark : List ℕ → ℕ → List Symbol → Type 0
+abbrev pub IsMark : List ℕ → ℕ → List Symbol → Type 0
 IsMark text at u = u ≡ Symbol.Fixed at text ∷ []
 
-mark_goes : (text : List ℕ) → Goes (mark text) (IsMark text)
+pub mark_goes : (text : List ℕ) → Goes (mark text) (IsMark text)
 mark_goes text = record {
   found = λ ss at rest e. (Symbol.Fixed at text ∷ [], mark_is text ss at rest e, refl);
   stuck = λ ss rest e. ([], Symbol.Fixed 0 text ∷ [], 0, mark_stuck text ss rest e, refl);
@@ -106,7 +126,7 @@ mark_goes text = record {
 }
 
 -- a size
-size_stuck : (ss rest : List Symbol) → size ss ≡ Stuck rest → ss ≡ rest
+pub size_stuck : (ss rest : List Symbol) → size ss ≡ Stuck rest → ss ≡ rest
 size_stuck [] rest e = cc
 size_stuck (Symbol.Fixed at text ∷ ss) rest e = cc
 size_stuck (Symbol.Named at text ∷ ss) rest e = absurd (cc)
@@ -127,21 +147,21 @@ size_goes = record {
 }
 
 -- nothing further
-record IsDone (x y : Formula) (u : List Symbol) : Type 0 where
-  same : y ≡ x
-  none : u ≡ []
+pub record IsDone {A : Type 0} (x y : A) (u : List Symbol) : Type 0 where
+  pub same : y ≡ x
+  pub none : u ≡ []
 
-done_goes : (x : Formula) → Goes (λ s. Found x s) (IsDone x)
-done_goes x = record {
+pub done_goes : {A : Type 0} (x : A) → Goes (λ s. Found x s) (IsDone x)
+done_goes {A = A} x = record {
   found = λ ss y rest e. ([], rests ss y rest e, record { same = values ss y rest e; none = refl });
   stuck = λ ss rest e. never ss rest e;
   some = (x, [], record { same = refl; none = refl });
 }
   where
-    rests : (ss : List Symbol) (y : Formula) (rest : List Symbol) → Found x ss ≡ Found y rest → ss ≡ rest
+    rests : (ss : List Symbol) (y : A) (rest : List Symbol) → Found x ss ≡ Found y rest → ss ≡ rest
     rests ss y rest e = cc
 
-    values : (ss : List Symbol) (y : Formula) (rest : List Symbol) → Found x ss ≡ Found y rest → y ≡ x
+    values : (ss : List Symbol) (y : A) (rest : List Symbol) → Found x ss ≡ Found y rest → y ≡ x
     values ss y rest e = cc
 
     never : {P : Type 0} (ss rest : List Symbol) → Found x ss ≡ Stuck rest → P
@@ -150,13 +170,25 @@ done_goes x = record {
 -- ---- parts
 
 -- equal parts make equal wholes
-glue : (w u v a b : List Symbol) → w ≡ u ++ v → u ≡ a → v ≡ b → w ≡ a ++ b
+pub glue : (w u v a b : List Symbol) → w ≡ u ++ v → u ≡ a → v ≡ b → w ≡ a ++ b
 glue w u v a b e f g = e ∙ ap (λ t. t ++ v) f ∙ ap (λ t. a ++ t) g
 
+-- the last mark
+abbrev pub Closes : {A : Type 0} → List ℕ → (ℕ → A) → A → List Symbol → Type 0
+Closes text make = Then (IsMark text) (λ q. IsDone (make q))
+
+-- it is read or lacks
+pub closes : {A : Type 0} (text : List ℕ) (make : ℕ → A) → Goes (λ t. after (mark text t) (λ q s. Found (make q) s)) (Closes text make)
+closes text make = after_goes (mark text) (λ q s. Found (make q) s) (IsMark text) (λ q. IsDone (make q)) (mark_goes text) (λ q. done_goes (make q))
+
+-- the mark alone is left
+pub closed_is : {A : Type 0} (text : List ℕ) (make : ℕ → A) (y : A) (w : List Symbol) (t : Closes text make y w) → w ≡ Symbol.Fixed t.item text ∷ []
+closed_is text make y w t = glue w t.u t.v (Symbol.Fixed t.item text ∷ []) [] t.joined t.first t.second.none
+
 -- an expression that is a part of another
-record IsPart (k room : ℕ) (x : Formula) (u : List Symbol) : Type 0 where
-  good : IsGood k room x
-  spelled : u ≡ formula_spelling x
+pub record IsPart (k room : ℕ) (x : Formula) (u : List Symbol) : Type 0 where
+  pub good : IsGood k room x
+  pub spelled : u ≡ formula_spelling x
 
 -- an operand with this symbol in front of the others
 record IsNode (room : ℕ) (first : Symbol) (y : Formula) (w : List Symbol) : Type 0 where
@@ -178,38 +210,28 @@ viable_here : (k room : ℕ) (ss rest : List Symbol) → k ≤ unary_level → 1
 viable_here k room ss rest le some e =
     record { front = []; further = Symbol.Number 0 0 ∷ []; expression = Numeral (record { at = 0; value = 0 }); left = e; good = record { leveled = tt; at_least = omega arith; shallow = some }; spelled = refl }
 
-room_stuck : {A : Type 0} (room : ℕ) (here : List Symbol) (a : Read A) (rest : List Symbol) → with_room room here a ≡ Stuck rest → (here ≡ rest) ⊎ ((1 < room) × (a ≡ Stuck rest))
+pub room_stuck : {A : Type 0} (room : ℕ) (here : List Symbol) (a : Read A) (rest : List Symbol) → with_room room here a ≡ Stuck rest → (here ≡ rest) ⊎ ((1 < room) × (a ≡ Stuck rest))
 room_stuck room here a rest e =
     ⊎_elim
     (λ (lt : 1 < room). inr (lt, sym (above room 1 (Stuck here) a lt) ∙ e))
     (λ (le : room ≤ 1). inl (stuck_is here rest (sym (within room 1 (Stuck here) a le) ∙ e)))
     (cases_lt 1 room)
 
-found_not_stuck : {A : Type 0} {P : Type 0} (x : A) (s rest : List Symbol) → Found x s ≡ Stuck rest → P
+pub found_not_stuck : {A : Type 0} {P : Type 0} (x : A) (s rest : List Symbol) → Found x s ≡ Stuck rest → P
 found_not_stuck x s rest e = absurd (cc)
 
 -- ---- operands
 
-abbrev IsViable : Reader → Type 0
+abbrev pub IsViable : Reader → Type 0
 IsViable inner = (k room : ℕ) (ss rest : List Symbol) → k ≤ unary_level → 1 ≤ room → inner k room ss ≡ Stuck rest → Viable k room ss rest
 
 module _ (inner : Reader) (sound : IsSound inner) (viable : IsViable inner) where
-  part_goes : (k room : ℕ) → k ≤ unary_level → 1 ≤ room → Goes (inner k room) (IsPart k room)
+  pub part_goes : (k room : ℕ) → k ≤ unary_level → 1 ≤ room → Goes (inner k room) (IsPart k room)
   part_goes k room le some = record {
     found = λ ss x rest e. let s = sound k room ss x rest le some e in (formula_spelling x, s.spelled, record { good = record { leveled = s.leveled; at_least = s.at_least; shallow = s.shallow }; spelled = refl });
     stuck = λ ss rest e. let v = viable k room ss rest le some e in (v.front, v.further, v.expression, v.left, record { good = v.good; spelled = v.spelled });
     some = (Numeral (record { at = 0; value = 0 }), Symbol.Number 0 0 ∷ [], record { good = record { leveled = tt; at_least = omega arith; shallow = some }; spelled = refl });
   }
-
-  abbrev Closes : List ℕ → (ℕ → Formula) → Formula → List Symbol → Type 0
-  Closes text make = Then (IsMark text) (λ q. IsDone (make q))
-
-  closes : (text : List ℕ) (make : ℕ → Formula) → Goes (λ t. after (mark text t) (λ q s. Found (make q) s)) (Closes text make)
-  closes text make = after_goes (mark text) (λ q s. Found (make q) s) (IsMark text) (λ q. IsDone (make q)) (mark_goes text) (λ q. done_goes (make q))
-
-  -- the mark alone is left
-  closed_is : (text : List ℕ) (make : ℕ → Formula) (y : Formula) (w : List Symbol) (t : Closes text make y w) → w ≡ Symbol.Fixed t.item text ∷ []
-  closed_is text make y w t = glue w t.u t.v (Symbol.Fixed t.item text ∷ []) [] t.joined t.first t.second.none
 
   paren_viable : (room at : ℕ) (ss rest : List Symbol) → 1 < room → paren inner room at ss ≡ Stuck rest → Viable unary_level room (Symbol.Fixed at (codes "(") ∷ ss) rest
   paren_viable room at ss rest lt e =

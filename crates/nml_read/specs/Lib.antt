@@ -1,3 +1,12 @@
 pub mod Reading
 pub mod ReadingStatements
+pub mod Readings
+pub mod ReadingItems
+pub mod Trees
+pub mod Unplaced
 pub mod Sample
+pub mod SampleItems
+pub mod Seen
+pub mod SeenWords
+pub mod Forms
+pub mod SeenStatements

@@ -65,8 +65,8 @@ naming inner room n ss (Some (dot, rest)) = part n dot rest
 -- `halt ( e ) ;`, behind its first symbol
 abbrev pub halting : Reader → ℕ → ℕ → List Symbol → Read (Block → Block)
 halting inner room at ss =
-    with_room room ss (after (mark (codes "(") ss) (λ p s1. after (inner 0 (room - 1) s1) (λ e s2. after (mark (codes ")") s2)
-    (λ q s3. after (mark (codes ";") s3) (λ semicolon s4. Found (Halt at p e q semicolon) s4)))))
+    after (mark (codes "(") ss) (λ p s1. after (inner 0 (room - 1) s1) (λ e s2. after (mark (codes ")") s2)
+    (λ q s3. after (mark (codes ";") s3) (λ semicolon s4. Found (Halt at p e q semicolon) s4))))
 
 -- `endif ;`, or `else stmts endif ;`: the last is what stands behind `else`, if that is next
 abbrev pub branch_end : Blocks → ℕ → ℕ → Formula → ℕ → Block → List Symbol → Option (ℕ × List Symbol) → Read (Block → Block)
@@ -85,7 +85,7 @@ branching inner blocks room at ss =
 -- what begins so; `here` are the symbols from the first on
 abbrev pub statement : Reader → Blocks → ℕ → List Symbol → Start → List Symbol → Read (Block → Block)
 statement inner blocks room here (Naming n) ss = naming inner room n ss (behind (codes ".") ss)
-statement inner blocks room here (Halting at) ss = halting inner room at ss
+statement inner blocks room here (Halting at) ss = with_room room here (halting inner room at ss)
 statement inner blocks room here (Branching at) ss = with_room room here (branching inner blocks room at ss)
 
 -- ---- statements

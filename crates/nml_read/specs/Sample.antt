@@ -109,6 +109,10 @@ branch_too_deep = refl
 pub branch_alone : statements 20 1 branch_symbols ≡ Stuck branch_symbols
 branch_alone = refl
 
+-- `halt` alone has an expression below it
+pub halt_alone : statements 20 1 (Fixed 0 (codes "halt") ∷ Fixed 5 (codes "(") ∷ Number 7 0 ∷ []) ≡ Stuck (Fixed 0 (codes "halt") ∷ Fixed 5 (codes "(") ∷ Number 7 0 ∷ [])
+halt_alone = refl
+
 -- `x = 1 endif` is stuck where the semicolon lacks
 pub no_semicolon : statements 20 9 (Named 0 (codes "x") ∷ Fixed 2 (codes "=") ∷ Number 4 1 ∷ Fixed 6 (codes "endif") ∷ []) ≡ Stuck (Fixed 6 (codes "endif") ∷ [])
 no_semicolon = refl

@@ -1,10 +1,12 @@
-ghost use Rattle.std.specs.Prelude.{◌≡◌, All};
+ghost use Rattle.std.specs.Prelude.{◌≡◌, ℕ, List, map, All};
 ghost use Rattle.nml_tree.specs.declared.tree.Desc.{Desc};
 ghost use Rattle.nml_tree.specs.Formula.{Formula};
 ghost use Rattle.nml_tree.specs.Block.{Block};
 ghost use Rattle.nml_tree.specs.Level.{IsLeveled, IsLeveledBlock, IsLeveledItem};
 ghost use Rattle.nml_tree.specs.Spell.{formula_spelling, block_spelling};
 ghost use Rattle.nml_tree.specs.SpellItems.{spelling};
+ghost use Rattle.nml_read.specs.Unplaced.{unplaced_symbol, unplaced};
+ghost use Rattle.nml_read.specs.Trees.{IsTree, HasNoTree};
 
 /// A law: no symbols spell two expressions.
 pub fn one_expression()
@@ -16,7 +18,17 @@ pub fn one_block()
     ensures { (x y : Block) → IsLeveledBlock x → IsLeveledBlock y → block_spelling x ≡ block_spelling y → x ≡ y }
 {}
 
-/// A law: no symbols spell two descriptions.
+/// A law: no symbols spell two descriptions; and where the places are left aside, two descriptions with one spelling differ in places alone.
 pub fn one_tree()
-    ensures { (d e : Desc) → All IsLeveledItem d.items → All IsLeveledItem e.items → spelling d ≡ spelling e → d ≡ e }
+    ensures placed { (d e : Desc) → All IsLeveledItem d.items → All IsLeveledItem e.items → spelling d ≡ spelling e → d ≡ e }
+    ensures aside { (d e : Desc) → All IsLeveledItem d.items → All IsLeveledItem e.items → map unplaced_symbol (spelling d) ≡ map unplaced_symbol (spelling e) → unplaced d ≡ unplaced e }
+{}
+
+/// A law: no bytes spell two descriptions; where they spell one, their tokens don't stop to begin one; and they stop at one place at most.
+///
+/// The language is this project's own.
+pub fn one_reading()
+    ensures one { (bytes : List ℕ) (d e : Desc) → IsTree bytes d → IsTree bytes e → d ≡ e }
+    ensures never { (bytes : List ℕ) (d : Desc) (at : ℕ) → IsTree bytes d → HasNoTree bytes at → ⊥ }
+    ensures place { (bytes : List ℕ) (at other : ℕ) → HasNoTree bytes at → HasNoTree bytes other → at ≡ other }
 {}

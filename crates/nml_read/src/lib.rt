@@ -1,6 +1,26 @@
 //! The tree of a description's tokens.
 #![tactic(auto)]
 
+mod attributes;
+mod beginning;
+mod description;
+mod expression;
+mod float;
+mod front;
+mod item;
 mod law;
+#[cfg(test)]
+mod machines;
+mod operator;
+mod parameters;
+mod rules;
+mod sign;
+mod start;
+mod statement;
+mod stop;
+#[cfg(test)]
+mod tests;
+mod types;
 
-pub use law::{one_block, one_expression, one_tree};
+pub use description::read;
+pub use law::{one_block, one_expression, one_reading, one_tree};

@@ -2,8 +2,6 @@
 use Rattle.std.proofs.Common.{◌≡◌, ◌⊎◌, ℕ, List, sym, ap, ◌∙◌, subst, arith, inl, inr}
 use Rattle.nml_tree.specs.Description.{Description}
 use Rattle.nml_tree.specs.IsPlain.{IsPlain, word_width}
-use Rattle.nml_tree.proofs.OneDescription.{one_description_holds}
-use Rattle.nml_lex.proofs.Parts.{never, place}
 use Rattle.image_file.specs.File.{Picture, Init, HasFile}
 use Rattle.image_file.proofs.OneFile.{one}
 use Rattle.asm_tool.specs.PlainText.{lines}
@@ -11,12 +9,13 @@ use Rattle.asm_tool.proofs.AssembledWords.{pc_numbers}
 use Rattle.asm_tool.proofs.Determined.{HasOneWord, one_assembly, none_fails, one_failure, both}
 use Rattle.asm_tool.proofs.Instructions.{same_word}
 use Rattle.bit_sim.proofs.OneRun.{one_run}
-use Rattle.nml_suite.specs.Coming.{Opens, Short, Opened, Spells, NoTokens, NoDescription, Described, AssemblesTo, NotPlain, NoMatch, Words, Loads, NoImage, Loaded, IsImageOf, RunsTo, Input, Ran, AsmComesTo, RunComesTo, picture, image_file}
-use Rattle.nml_suite.specs.Outcome.{Work, telling, unread, starved, lex_fault, no_match, bad_input, assembled, told_run}
+use Rattle.nml_suite.specs.Coming.{Opens, Short, Opened, Spells, Faulty, NoDescription, Described, AssemblesTo, NotPlain, NoMatch, Words, Loads, NoImage, Loaded, IsImageOf, RunsTo, Input, Ran, AsmComesTo, RunComesTo, picture, image_file}
+use Rattle.nml_suite.specs.Outcome.{Work, telling, unread, starved, description_fault, no_match, bad_input, assembled, told_run}
 use Rattle.nml_suite.specs.Reading.{Reading, Got, Unread, IsShort}
 use Rattle.nml_suite.specs.declared.purpose.Purpose.{Purpose}
 use Rattle.nml_suite.specs.declared.purpose.Purpose.TheVariants as purposes
 use Rattle.nml_suite.proofs.Images.{has_file}
+use Rattle.nml_suite.proofs.OneFault.{one_fault, no_fault, one_described}
 
 -- what a call comes to is what is defined, or memory was wanted
 abbrev pub Agrees : Work → Work → Type 0
@@ -40,17 +39,17 @@ opens_agree name r q goes went w v (inr e) h (Opened bytes x f) o = absurd (cc (
 
 spells_agree : (purpose : Purpose) (name bytes : List ℕ) (goes went : Description → Work → Type 0) (w v : Work) → ((d : Description) → IsPlain d → goes d w → went d v → Agrees w v)
     → Spells purpose name bytes goes w → Spells purpose name bytes went v → Agrees w v
-spells_agree purpose name bytes goes went w v h (NoTokens at stuck e) (NoTokens other there f) =
-    inl (e ∙ ap (λ n. telling (lex_fault name n)) (place bytes at other stuck there) ∙ sym f)
-spells_agree purpose name bytes goes went w v h (NoTokens at stuck e) (NoDescription t none f) = absurd (never bytes t.0 at t.1 stuck)
-spells_agree purpose name bytes goes went w v h (NoTokens at stuck e) (Described t x d f) = absurd (never bytes t.0 at t.1 stuck)
-spells_agree purpose name bytes goes went w v h (NoDescription t none e) (NoTokens at stuck f) = absurd (never bytes t.0 at t.1 stuck)
-spells_agree purpose name bytes goes went w v h (NoDescription t none e) (NoDescription u no_other f) = inl (e ∙ sym f)
-spells_agree purpose name bytes goes went w v h (NoDescription t none e) (Described u x d f) = absurd (none x d)
-spells_agree purpose name bytes goes went w v h (Described t x d f) (NoTokens at stuck e) = absurd (never bytes t.0 at t.1 stuck)
-spells_agree purpose name bytes goes went w v h (Described t x d f) (NoDescription u none e) = absurd (none x d)
-spells_agree purpose name bytes goes went w v h (Described t x d f) (Described u y e g) =
-    h y e.reads.plain (subst (λ z. goes z w) (one_description_holds bytes x y d.reads e.reads) f) g
+spells_agree purpose name bytes goes went w v h (Faulty f x e) (Faulty g y i) =
+    inl (e ∙ ap (λ n. telling (description_fault name n)) (one_fault bytes f g x y) ∙ sym i)
+spells_agree purpose name bytes goes went w v h (Faulty f x e) (NoDescription t is clear none i) = absurd (no_fault bytes t f is clear x)
+spells_agree purpose name bytes goes went w v h (Faulty f x e) (Described d y i) = absurd (no_fault bytes y.tree f y.is y.no_float x)
+spells_agree purpose name bytes goes went w v h (NoDescription t is clear none e) (Faulty f x i) = absurd (no_fault bytes t f is clear x)
+spells_agree purpose name bytes goes went w v h (NoDescription t is clear none e) (NoDescription u other free no_other i) = inl (e ∙ sym i)
+spells_agree purpose name bytes goes went w v h (NoDescription t is clear none e) (Described d y i) = absurd (none d y)
+spells_agree purpose name bytes goes went w v h (Described d x f) (Faulty g y e) = absurd (no_fault bytes x.tree g x.is x.no_float y)
+spells_agree purpose name bytes goes went w v h (Described d x f) (NoDescription t is clear none e) = absurd (none d x)
+spells_agree purpose name bytes goes went w v h (Described d x f) (Described e y g) =
+    h e y.plain.plain (subst (λ z. goes z w) (one_described purpose purpose bytes d e x y) f) g
 
 -- ---- `asm`
 

@@ -119,7 +119,9 @@ run_told h k b n t u f g d i x steps r status l a tells = record {
   third = Got a.text;
   readings = a.readings;
   work = telling (told_run tells.run);
-  comes = Opened a.bytes refl (Described a.described.tokens (description_of r.plain) a.described.describes (Opened a.bits refl (Loaded _ a.image_is (Opened a.text refl (Ran a.blank tells.run tells.runs refl)))));
+  comes = Opened a.bytes refl
+      (Described (description_of r.plain) a.described
+      (Opened a.bits refl (Loaded _ a.image_is (Opened a.text refl (Ran a.blank tells.run tells.runs refl)))));
   outcome = told_run tells.run;
   filed = kept h k b n 3 (told_run tells.run) l;
   told = tells.told;
@@ -127,13 +129,13 @@ run_told h k b n t u f g d i x steps r status l a tells = record {
 
 -- what a run begins with is a plain description with PC
 pub ready_is_plain : (h k : Option Names) (b n : Counts) (d i x : List ℕ) (r : Ready) → IsReady (store h b) (store k n) d i x r.plain r.image → IsPlain (description_of r.plain)
-ready_is_plain h k b n d i x r a = a.described.describes.reads.plain
+ready_is_plain h k b n d i x r a = a.described.plain.plain
 
 some_regs : (n : ℕ) → IsTrue (nat_lt 0 n) → 0 < n
 some_regs n h = grind (arith, nat_tests)
 
 pub ready_has_pc : (h k : Option Names) (b n : Counts) (d i x : List ℕ) (r : Ready) → IsReady (store h b) (store k n) d i x r.plain r.image → 0 < length r.plain.regs.items
-ready_has_pc h k b n d i x r a = omega (arith, some_regs _ a.described.describes.built, length-map r.plain.regs.items field_of)
+ready_has_pc h k b n d i x r a = omega (arith, some_regs _ a.described.built, length-map r.plain.regs.items field_of)
 
 -- ---- other words
 

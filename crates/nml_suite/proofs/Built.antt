@@ -1,20 +1,21 @@
--- Which descriptions are built: their rules and ports in memory and without it, and what bytes spell where theirs isn't built.
+-- Which descriptions are built: their rules and ports in memory and without it, and what a tree is where its description isn't built.
 use Rattle.std.proofs.Common.{inr, ◌≡◌, List, ℕ, [], ◌∷◌, map, length, ap, refl, sym, subst, ◌∙◌}
 use Rattle.std.specs.Prelude.{nat_eq, ◌&&◌, IsTrue, IsFalse, Option, Some, None, is_none, Result, Ok, Err, IfOk, IfErr}
 use Rattle.std.proofs.lemmas.Bool.{false≢true}
 use Rattle.std.specs.Option.{option_map}
 use Rattle.std.specs.List.{list_all}
 use Rattle.nml_tree.specs.Description.{rule_of, field_of, description_of}
-use Rattle.nml_tree.specs.ReadAs.{ReadsAs}
+use Rattle.nml_tree.specs.PlainTree.{IsPlainTree}
 use Rattle.nml_tree.specs.declared.rules.Plain.{Plain}
 use Rattle.nml_tree.specs.declared.rules.PlainField.{PlainField}
 use Rattle.nml_tree.specs.declared.rules.PlainRule.{PlainRule}
-use Rattle.nml_tree.proofs.OneDescription.{one_description_holds}
+use Rattle.nml_tree.specs.declared.tree.Desc.{Desc}
 use Rattle.nml_suite.specs.Coming.{is_built}
 use Rattle.nml_suite.specs.Outcome.{not_built_file}
-use Rattle.nml_suite.specs.Refused.{IsSpelled, refused}
+use Rattle.nml_suite.specs.Refused.{IsDescribedBy, refused}
 use Rattle.nml_suite.specs.declared.purpose.Purpose.{Purpose}
 use Rattle.nml_suite.specs.declared.refusal.Refusal.{Refusal}
+use Rattle.nml_suite.proofs.OneFault.{one_plain_tree}
 
 -- rules without actions are so in memory too
 pub all_mapped : (rules : List PlainRule) → list_all (λ r. nat_eq (length r.action) 0) (map rule_of rules) ≡ list_all (λ r. nat_eq (length r.action.items) 0) rules
@@ -26,11 +27,11 @@ pub none_mapped : (p : Option PlainField) → is_none (option_map field_of p) �
 none_mapped None = refl
 none_mapped (Some f) = refl
 
--- where the bytes spell this description, which isn't built, they spell none that is
-pub described_by : (purpose : Purpose) (name bytes : List ℕ) (p : Plain) (r : Result Plain Refusal) → ReadsAs bytes (description_of p)
+-- where the tree is this description, which isn't built, it is none that is
+pub described_by : (purpose : Purpose) (name : List ℕ) (t : Desc) (p : Plain) (r : Result Plain Refusal) → IsPlainTree t (description_of p)
     → IfOk r (λ q. (q ≡ p) × IsTrue (is_built purpose (description_of p)))
-    → IfErr r (λ e. (refused e ≡ not_built_file name) × IsFalse (is_built purpose (description_of p))) → IsSpelled purpose name bytes r
-described_by purpose name bytes p (Ok q) reads kept other =
-    subst (λ z. IsSpelled purpose name bytes (Ok z)) (sym kept.0) (record { reads = reads; built = kept.1 })
-described_by purpose name bytes p (Err e) reads kept other =
-    inr (other.0, λ d w. false≢true (sym other.1 ∙ ap (is_built purpose) (one_description_holds bytes (description_of p) d reads w.reads) ∙ w.built))
+    → IfErr r (λ e. (refused e ≡ not_built_file name) × IsFalse (is_built purpose (description_of p))) → IsDescribedBy purpose name t r
+described_by purpose name t p (Ok q) is kept other =
+    subst (λ z. IsDescribedBy purpose name t (Ok z)) (sym kept.0) (record { plain = is; built = kept.1 })
+described_by purpose name t p (Err e) is kept other =
+    inr (other.0, λ d w. false≢true (sym other.1 ∙ ap (is_built purpose) (one_plain_tree t (description_of p) d is w.plain) ∙ w.built))

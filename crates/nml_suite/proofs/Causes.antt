@@ -10,7 +10,7 @@ use Rattle.asm_tool.specs.PlainText.{lines}
 use Rattle.nml_suite.specs.Answer.{Moment, Answers, HasReadings, ReadsTwo, ReadsThree, Filed, IsSaved}
 use Rattle.nml_suite.specs.Answer as answers
 use Rattle.nml_suite.specs.Cause.{NamesToRead, HasCause, HasRead, HasMachine, HasImage, IsUsage}
-use Rattle.nml_suite.specs.Coming.{Opens, Short, Opened, Spells, NoTokens, NoDescription, Described, Describes, AssemblesTo, NotPlain, NoMatch, Words, Loads, NoImage, Loaded, IsImageOf, RunsTo, Input, Ran, AsmComesTo, RunComesTo, ComesTo, first_input}
+use Rattle.nml_suite.specs.Coming.{Opens, Short, Opened, Spells, Faulty, NoDescription, Described, Describes, AssemblesTo, NotPlain, NoMatch, Words, Loads, NoImage, Loaded, IsImageOf, RunsTo, Input, Ran, AsmComesTo, RunComesTo, ComesTo, first_input}
 use Rattle.nml_suite.specs.Form.{Form, Check, Asm, Dis, Run, Cc, Ceval, Demo}
 use Rattle.nml_suite.specs.Outcome.{Outcome, Work, telling, unread, outcome, usage_line, not_built, stop_status, told_run}
 use Rattle.nml_suite.specs.Reading.{Reading, Got, Absent, Failed, TooLong, Unread, IsShort, HasReading}
@@ -64,11 +64,23 @@ source_owes b n d s i bytes x second w r t c saved (Opened text e a) = text_owes
 
 bytes_owe : (b n : Moment) (d s i bytes : List ℕ) (second : Reading) (w : Work) → Reads b.store.held d bytes → HasReading b.store.held b.store.counts n.store.counts s second
     → IsSaved b.store n.store w.file → Spells purposes.Assembling d bytes (λ x. Opens s second (AssemblesTo s i bytes x)) w → Owes b n (Some (Asm d s i)) w.outcome
-bytes_owe b n d s i bytes second w r c saved (NoTokens at stuck e) =
-    owes_as b n (Some (Asm d s i)) w _ e (λ o. record { name = d; named = refl; bytes = bytes; read = r; at = at; stuck = stuck; text = o })
-bytes_owe b n d s i bytes second w r c saved (NoDescription tokens none e) =
-    owes_as b n (Some (Asm d s i)) w _ e (λ o. inr (inl (inl (record { description = d; source = s; image = i; is = refl; bytes = bytes; read = r; none = none; text = o }))))
-bytes_owe b n d s i bytes second w r c saved (Described tokens x t o) = source_owes b n d s i bytes x second w r t c saved o
+bytes_owe b n d s i bytes second w r c saved (Faulty f v e) =
+    owes_as b n (Some (Asm d s i)) w _ e (λ o. record { name = d; named = refl; bytes = bytes; read = r; fault = f; faulty = v; text = o })
+bytes_owe b n d s i bytes second w r c saved (NoDescription t is clear none e) =
+    owes_as b n (Some (Asm d s i)) w _ e (λ o. inr (inl (inl (record {
+      description = d;
+      source = s;
+      image = i;
+      is = refl;
+      bytes = bytes;
+      read = r;
+      tree = t;
+      is_tree = is;
+      no_float = clear;
+      none = none;
+      text = o;
+    }))))
+bytes_owe b n d s i bytes second w r c saved (Described x t o) = source_owes b n d s i bytes x second w r t c saved o
 
 asm_owes : (b n : Moment) (d s i : List ℕ) (first second : Reading) (w : Work) → ReadsTwo b.store n.store d s first second → IsSaved b.store n.store w.file → AsmComesTo d s i first second w
     → Owes b n (Some (Asm d s i)) w.outcome
@@ -122,11 +134,24 @@ image_owes b n d i x steps bytes p second third w r t c k (Opened bits e a) = bi
 machine_owes : (b n : Moment) (d i x : List ℕ) (steps : ℕ) (bytes : List ℕ) (second third : Reading) (w : Work) → Reads b.store.held d bytes
     → HasReading b.store.held b.store.counts n.store.counts i second → HasReading b.store.held b.store.counts n.store.counts x third
     → Spells purposes.Running d bytes (λ p. Opens i second (λ bits. Loads i bytes p bits (λ words. Opens x third (RunsTo x steps p words)))) w → Owes b n (Some (Run d i x steps)) w.outcome
-machine_owes b n d i x steps bytes second third w r c k (NoTokens at stuck e) =
-    owes_as b n (Some (Run d i x steps)) w _ e (λ o. record { name = d; named = refl; bytes = bytes; read = r; at = at; stuck = stuck; text = o })
-machine_owes b n d i x steps bytes second third w r c k (NoDescription tokens none e) =
-    owes_as b n (Some (Run d i x steps)) w _ e (λ o. inr (inr (inl (record { description = d; image = i; input = x; steps = steps; is = refl; bytes = bytes; read = r; none = none; text = o }))))
-machine_owes b n d i x steps bytes second third w r c k (Described tokens p t a) = image_owes b n d i x steps bytes p second third w r t c k a
+machine_owes b n d i x steps bytes second third w r c k (Faulty f v e) =
+    owes_as b n (Some (Run d i x steps)) w _ e (λ o. record { name = d; named = refl; bytes = bytes; read = r; fault = f; faulty = v; text = o })
+machine_owes b n d i x steps bytes second third w r c k (NoDescription t is clear none e) =
+    owes_as b n (Some (Run d i x steps)) w _ e (λ o. inr (inr (inl (record {
+      description = d;
+      image = i;
+      input = x;
+      steps = steps;
+      is = refl;
+      bytes = bytes;
+      read = r;
+      tree = t;
+      is_tree = is;
+      no_float = clear;
+      none = none;
+      text = o;
+    }))))
+machine_owes b n d i x steps bytes second third w r c k (Described p t a) = image_owes b n d i x steps bytes p second third w r t c k a
 
 run_owes : (b n : Moment) (d i x : List ℕ) (steps : ℕ) (first second third : Reading) (w : Work) → ReadsThree b.store n.store d i x first second third → RunComesTo d i x steps first second third w
     → Owes b n (Some (Run d i x steps)) w.outcome

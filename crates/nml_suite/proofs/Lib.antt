@@ -7,6 +7,7 @@ pub mod Composing
 pub mod Describing
 pub mod Images
 pub mod Lines
+pub mod OneFault
 pub mod Outputs
 pub mod Settling
 pub mod Telling

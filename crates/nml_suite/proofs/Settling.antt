@@ -8,10 +8,10 @@ use Rattle.image_file.specs.File.{Picture}
 use Rattle.image_file.specs.Seen.{picture_of}
 use Rattle.image_file.specs.declared.image.Image.{Image}
 use Rattle.nml_suite.specs.Answer.{store}
-use Rattle.nml_suite.specs.Coming.{IsImageOf, NoTokens, Short, Opened, NoDescription, Described, NotPlain, NoMatch, Words, NoImage, Loaded, Input, first_input}
+use Rattle.nml_suite.specs.Coming.{Describes, IsImageOf, Faulty, Short, Opened, NoDescription, Described, NotPlain, NoMatch, Words, NoImage, Loaded, Input, first_input}
 use Rattle.nml_suite.specs.Outcome.{Outcome, Written, telling, assembled, starved}
 use Rattle.nml_suite.specs.Reading.{Reading, Got, Absent, Failed, TooLong, Unread, HasReading, LeavesFiles, asked, asked_behind}
-use Rattle.nml_suite.specs.Refused.{refused, settled, writes, file_named, IsUnread, IsDescribed, IsPlainText, IsAssembledText, IsFound, IsBlankInput, AsmSettles, RunRefused, IsReady}
+use Rattle.nml_suite.specs.Refused.{refused, settled, writes, file_named, IsUnread, IsDescribed, IsAssembledText, IsFound, IsBlankInput, AsmSettles, RunRefused, IsReady}
 use Rattle.nml_suite.specs.declared.assemble.Assembled.{Assembled}
 use Rattle.nml_suite.specs.declared.purpose.Purpose.TheVariants as purposes
 use Rattle.nml_suite.specs.declared.refusal.Refusal.{Refusal}
@@ -82,7 +82,7 @@ asm_not_described h k b n d s i bytes e c r (inr (inl x)) = record {
   first_cause = r;
   second_cause = tt;
   calls = omega (arith, c);
-  comes = Opened bytes refl (NoTokens x.at x.stuck (ap telling x.is));
+  comes = Opened bytes refl (Faulty x.fault x.faulty (ap telling x.is));
 }
 asm_not_described h k b n d s i bytes e c r (inr (inr x)) = record {
   first = Got bytes;
@@ -90,29 +90,31 @@ asm_not_described h k b n d s i bytes e c r (inr (inr x)) = record {
   first_cause = r;
   second_cause = tt;
   calls = omega (arith, c);
-  comes = Opened bytes refl (NoDescription x.tokens x.none (ap telling x.is));
+  comes = Opened bytes refl (NoDescription x.tree x.is_tree x.no_float x.none (ap telling x.is));
 }
 
 pub asm_no_text : (h k q : Option Names) (b m n : Counts) (d s i bytes : List ℕ) (x : Description) (e : Refusal) → LeavesFiles h k b m 1 → n.calls ≤ m.calls + 1
-    → Reads h d bytes → IsPlainText purposes.Assembling bytes x → IsUnread k m n s (refused e) → AsmSettles (store h b) (store q n) d s i (telling (refused e))
+    → Reads h d bytes → Describes purposes.Assembling bytes x → IsUnread k m n s (refused e)
+    → AsmSettles (store h b) (store q n) d s i (telling (refused e))
 asm_no_text h k q b m n d s i bytes x e l c r t u = record {
   first = Got bytes;
   second = u.reading;
   first_cause = r;
   second_cause = earlier h k b m n 1 s u.reading l u.cause;
   calls = omega (arith, c, l.made, asked_two u.reading);
-  comes = Opened bytes refl (Described t.tokens x t.describes (Short u.short (ap telling u.is)));
+  comes = Opened bytes refl (Described x t (Short u.short (ap telling u.is)));
 }
 
 pub asm_settled : (h k q : Option Names) (b m n : Counts) (d s i bytes text : List ℕ) (x : Description) (r : Result Assembled Refusal) → LeavesFiles h k b m 1 → n.calls ≤ m.calls + 1
-    → Reads h d bytes → IsPlainText purposes.Assembling bytes x → Reads k s text → IsAssembledText bytes x s text r → AsmSettles (store h b) (store q n) d s i (settled i r)
+    → Reads h d bytes → Describes purposes.Assembling bytes x → Reads k s text → IsAssembledText bytes x s text r
+    → AsmSettles (store h b) (store q n) d s i (settled i r)
 asm_settled h k q b m n d s i bytes text x (Ok made) l c r t u z = record {
   first = Got bytes;
   second = Got text;
   first_cause = r;
   second_cause = subst (λ y. Reads y s text) l.same u;
   calls = omega (arith, c, l.made, writes_one (file_named i made.file));
-  comes = Opened bytes refl (Described t.tokens x t.describes (Opened text refl (Words z.fit z.words z.assembles
+  comes = Opened bytes refl (Described x t (Opened text refl (Words z.fit z.words z.assembles
       (λ j. record { file = z.made_of.file_is i j; outcome = assembled (z.made_of.width_is j) (z.made_of.words_are j) }))));
 }
 asm_settled h k q b m n d s i bytes text x (Err e) l c r t u (inl wants) = asm_starved h q b n d s i (refused e) (omega (arith, c, l.made)) wants
@@ -122,7 +124,7 @@ asm_settled h k q b m n d s i bytes text x (Err e) l c r t u (inr (inl z)) = rec
   first_cause = r;
   second_cause = subst (λ y. Reads y s text) l.same u;
   calls = omega (arith, c, l.made);
-  comes = Opened bytes refl (Described t.tokens x t.describes (Opened text refl (NotPlain z.other (ap telling z.is))));
+  comes = Opened bytes refl (Described x t (Opened text refl (NotPlain z.other (ap telling z.is))));
 }
 asm_settled h k q b m n d s i bytes text x (Err e) l c r t u (inr (inr z)) = record {
   first = Got bytes;
@@ -130,7 +132,7 @@ asm_settled h k q b m n d s i bytes text x (Err e) l c r t u (inr (inr z)) = rec
   first_cause = r;
   second_cause = subst (λ y. Reads y s text) l.same u;
   calls = omega (arith, c, l.made);
-  comes = Opened bytes refl (Described t.tokens x t.describes (Opened text refl (NoMatch z.fit z.line z.fails (ap telling z.is))));
+  comes = Opened bytes refl (Described x t (Opened text refl (NoMatch z.fit z.line z.fails (ap telling z.is))));
 }
 
 -- ---- `run`
@@ -162,47 +164,48 @@ run_not_described h k b n d i x bytes e c r (inr (inl y)) = record {
   second = Unread;
   third = Unread;
   readings = record { first_cause = r; second_cause = tt; third_cause = tt; calls = omega (arith, c) };
-  comes = λ steps. Opened bytes refl (NoTokens y.at y.stuck (ap telling y.is));
+  comes = λ steps. Opened bytes refl (Faulty y.fault y.faulty (ap telling y.is));
 }
 run_not_described h k b n d i x bytes e c r (inr (inr y)) = record {
   first = Got bytes;
   second = Unread;
   third = Unread;
   readings = record { first_cause = r; second_cause = tt; third_cause = tt; calls = omega (arith, c) };
-  comes = λ steps. Opened bytes refl (NoDescription y.tokens y.none (ap telling y.is));
+  comes = λ steps. Opened bytes refl (NoDescription y.tree y.is_tree y.no_float y.none (ap telling y.is));
 }
 
 pub run_no_image : (h k q : Option Names) (b m n : Counts) (d i x bytes : List ℕ) (p : Description) (e : Refusal) → LeavesFiles h k b m 1 → n.calls ≤ m.calls + 1
-    → Reads h d bytes → IsPlainText purposes.Running bytes p → IsUnread k m n i (refused e) → RunRefused (store h b) (store q n) d i x (refused e)
+    → Reads h d bytes → Describes purposes.Running bytes p → IsUnread k m n i (refused e) → RunRefused (store h b) (store q n) d i x (refused e)
 run_no_image h k q b m n d i x bytes p e l c r t u = record {
   first = Got bytes;
   second = u.reading;
   third = Unread;
   readings = record { first_cause = r; second_cause = earlier h k b m n 1 i u.reading l u.cause; third_cause = tt; calls = omega (arith, c, l.made, asked_two u.reading) };
-  comes = λ steps. Opened bytes refl (Described t.tokens p t.describes (Short u.short (ap telling u.is)));
+  comes = λ steps. Opened bytes refl (Described p t (Short u.short (ap telling u.is)));
 }
 
 pub run_not_found : (h k q : Option Names) (b m n : Counts) (d i x bytes bits : List ℕ) (p : Description) (e : Refusal) → LeavesFiles h k b m 1 → n.calls ≤ m.calls + 1
-    → Reads h d bytes → IsPlainText purposes.Running bytes p → Reads k i bits → IsFound bytes p i bits (Err e) → RunRefused (store h b) (store q n) d i x (refused e)
+    → Reads h d bytes → Describes purposes.Running bytes p → Reads k i bits → IsFound bytes p i bits (Err e)
+    → RunRefused (store h b) (store q n) d i x (refused e)
 run_not_found h k q b m n d i x bytes bits p e l c r t u (inl wants) = run_starved h q b n d i x (refused e) (omega (arith, c, l.made)) wants
 run_not_found h k q b m n d i x bytes bits p e l c r t u (inr none) = record {
   first = Got bytes;
   second = Got bits;
   third = Unread;
   readings = record { first_cause = r; second_cause = subst (λ y. Reads y i bits) l.same u; third_cause = tt; calls = omega (arith, c, l.made) };
-  comes = λ steps. Opened bytes refl (Described t.tokens p t.describes (Opened bits refl (NoImage none.1 (ap telling none.0))));
+  comes = λ steps. Opened bytes refl (Described p t (Opened bits refl (NoImage none.1 (ap telling none.0))));
 }
 
 -- the description and the image, at a moment after two reads
 pub record HasTwo (h l : Option Names) (b n : Counts) (d i bytes bits : List ℕ) (p : Description) (image : Picture) : Type 0 where
   pub leaves : LeavesFiles h l b n 2
   pub first : Reads h d bytes
-  pub described : IsPlainText purposes.Running bytes p
+  pub described : Describes purposes.Running bytes p
   pub second : Reads h i bits
   pub is : IsImageOf bytes p bits image
 
 pub has_two : (h k l : Option Names) (b m n : Counts) (d i bytes bits : List ℕ) (p : Description) (image : Picture) → LeavesFiles h k b m 1 → LeavesFiles k l m n 1
-    → Reads h d bytes → IsPlainText purposes.Running bytes p → Reads k i bits → IsImageOf bytes p bits image → HasTwo h l b n d i bytes bits p image
+    → Reads h d bytes → Describes purposes.Running bytes p → Reads k i bits → IsImageOf bytes p bits image → HasTwo h l b n d i bytes bits p image
 has_two h k l b m n d i bytes bits p image x y r t u v =
     record { leaves = leaves_both h k l b m n 1 1 x y; first = r; described = t; second = subst (λ z. Reads z i bits) x.same u; is = v }
 
@@ -213,7 +216,7 @@ run_no_input h l q b n o d i x bytes bits p image e t c u = record {
   second = Got bits;
   third = u.reading;
   readings = record { first_cause = t.first; second_cause = t.second; third_cause = earlier h l b n o 2 x u.reading t.leaves u.cause; calls = omega (arith, c, t.leaves.made) };
-  comes = λ steps. Opened bytes refl (Described t.described.tokens p t.described.describes (Opened bits refl (Loaded image t.is (Short u.short (ap telling u.is)))));
+  comes = λ steps. Opened bytes refl (Described p t.described (Opened bits refl (Loaded image t.is (Short u.short (ap telling u.is)))));
 }
 
 pub run_bad_input : (h l q : Option Names) (b n o : Counts) (d i x bytes bits text : List ℕ) (p : Description) (image : Picture) (e : Refusal) → HasTwo h l b n d i bytes bits p image
@@ -223,7 +226,8 @@ run_bad_input h l q b n o d i x bytes bits text p image e t c u bad = record {
   second = Got bits;
   third = Got text;
   readings = record { first_cause = t.first; second_cause = t.second; third_cause = earlier h l b n o 2 x (Got text) t.leaves u; calls = omega (arith, c, t.leaves.made) };
-  comes = λ steps. Opened bytes refl (Described t.described.tokens p t.described.describes (Opened bits refl (Loaded image t.is (Opened text refl (Input bad.0 bad.1 (ap telling bad.2))))));
+  comes = λ steps. Opened bytes refl
+      (Described p t.described (Opened bits refl (Loaded image t.is (Opened text refl (Input bad.0 bad.1 (ap telling bad.2))))));
 }
 
 pub run_ready : (h l q : Option Names) (b n o : Counts) (d i x bytes bits text : List ℕ) (p : Plain) (image : Image) → HasTwo h l b n d i bytes bits (description_of p) (picture_of image)

@@ -7,7 +7,7 @@ use Rattle.nml_tree.specs.Description.{Description}
 use Rattle.image_file.specs.File.{file}
 use Rattle.nml_suite.specs.Answer.{Moment, Answers, HasReadings, ReadsTwo, Filed, Kept, Failed, Starved, IsSaved, KeepsFiles}
 use Rattle.nml_suite.specs.Cause.{HasAssembled, HasDefined, IsAsm, IsRefusal, LeavesOthers, file_of}
-use Rattle.nml_suite.specs.Coming.{Opens, Short, Opened, Spells, NoTokens, NoDescription, Described, Describes, AssemblesTo, NotPlain, NoMatch, Words, AsmComesTo, RunComesTo, Loads, NoImage, Loaded, RunsTo, Input, Ran, ComesTo, has_pc, image_file, picture}
+use Rattle.nml_suite.specs.Coming.{Opens, Short, Opened, Spells, Faulty, NoDescription, Described, Describes, AssemblesTo, NotPlain, NoMatch, Words, AsmComesTo, RunComesTo, Loads, NoImage, Loaded, RunsTo, Input, Ran, ComesTo, has_pc, image_file, picture}
 use Rattle.nml_suite.specs.Form.{Form, Check, Asm, Dis, Run, Cc, Ceval, Demo}
 use Rattle.nml_suite.specs.Outcome.{Outcome, Work, Written, telling}
 use Rattle.nml_suite.specs.Reading.{Reading, HasReading}
@@ -59,9 +59,9 @@ source_file b n d s i bytes x second w f r t c (Opened text e a) is =
 
 bytes_file : (b n : Moment) (d s i bytes : List ℕ) (second : Reading) (w : Work) (f : Written) → Reads b.store.held d bytes
     → HasReading b.store.held b.store.counts n.store.counts s second → Spells purposes.Assembling d bytes (λ x. Opens s second (AssemblesTo s i bytes x)) w → w.file ≡ Some f → IsDefined b d s i w f
-bytes_file b n d s i bytes second w f r c (NoTokens at stuck e) is = no_file w _ f e is
-bytes_file b n d s i bytes second w f r c (NoDescription tokens none e) is = no_file w _ f e is
-bytes_file b n d s i bytes second w f r c (Described tokens x t a) is = source_file b n d s i bytes x second w f r t c a is
+bytes_file b n d s i bytes second w f r c (Faulty g h e) is = no_file w _ f e is
+bytes_file b n d s i bytes second w f r c (NoDescription t clean clear none e) is = no_file w _ f e is
+bytes_file b n d s i bytes second w f r c (Described x t a) is = source_file b n d s i bytes x second w f r t c a is
 
 asm_file : (b n : Moment) (d s i : List ℕ) (first second : Reading) (w : Work) (f : Written) → ReadsTwo b.store n.store d s first second → AsmComesTo d s i first second w → w.file ≡ Some f
     → IsDefined b d s i w f
@@ -79,9 +79,9 @@ opens_none name r goes w h (Short s e) = ap (λ k. k.file) e
 opens_none name r goes w h (Opened bytes e a) = h bytes a
 
 spells_none : (name bytes : List ℕ) (goes : Description → Work → Type 0) (w : Work) → ((p : Description) → goes p w → w.file ≡ None) → Spells purposes.Running name bytes goes w → w.file ≡ None
-spells_none name bytes goes w h (NoTokens at stuck e) = ap (λ k. k.file) e
-spells_none name bytes goes w h (NoDescription tokens none e) = ap (λ k. k.file) e
-spells_none name bytes goes w h (Described tokens p t a) = h p a
+spells_none name bytes goes w h (Faulty f x e) = ap (λ k. k.file) e
+spells_none name bytes goes w h (NoDescription t clean clear none e) = ap (λ k. k.file) e
+spells_none name bytes goes w h (Described p t a) = h p a
 
 loads_none : (name bytes : List ℕ) (p : Description) (bits : List ℕ) (goes : List ℕ → Work → Type 0) (w : Work) → ((words : List ℕ) → goes words w → w.file ≡ None) → Loads name bytes p bits goes w
     → w.file ≡ None

@@ -1,21 +1,24 @@
 -- When each answer comes, and what becomes of the files.
-use Rattle.std.specs.Prelude.{◌≡◌, ◌⊎◌, ℕ, suc, List, ◌++◌, length, Option, Some, None, codes, IsTrue, IsFalse, nat_le, if◌then◌else◌}
+use Rattle.std.specs.Prelude.{◌≡◌, ◌⊎◌, ℕ, suc, List, [], ◌++◌, length, Option, Some, None, codes, IsTrue, IsFalse, nat_le, if◌then◌else◌}
 use Rattle.nk_outside.specs.Count.{Rose}
 use Rattle.nk_outside.specs.Held.{Names, Reads, Lacks, IsTooLong, SameElsewhere, file_limit}
 use Rattle.nk_outside.specs.Taken.{Took}
 use Rattle.nml_tree.specs.Description.{Description}
 use Rattle.nml_tree.specs.IsPlain.{word_width}
-use Rattle.nml_lex.specs.Lexed.{IsStuckAt}
+use Rattle.nml_tree.specs.Floats.{float_places}
+use Rattle.nml_tree.specs.declared.tree.Desc.{Desc}
+use Rattle.nml_tree.specs.declared.fault.DescFault.{DescFault}
+use Rattle.nml_read.specs.Trees.{IsTree}
 use Rattle.image_file.specs.File.{Picture}
 use Rattle.asm_tool.specs.Assembly.{Assembles, FailsAt, is_fit}
 use Rattle.asm_tool.specs.PlainText.{lines}
 use Rattle.bit_sim.specs.Machine.{Runs, beginning, Stop, Running, Halted, NoWord, BadWord}
 use Rattle.bit_sim.specs.Machine as machine
 use Rattle.nml_suite.specs.Answer.{Moment, KeepsFiles, HasWritten, IsSaved}
-use Rattle.nml_suite.specs.Coming.{Describes, IsImageOf, AsmComesTo, RunComesTo, first_input, image_file}
+use Rattle.nml_suite.specs.Coming.{HasFault, Describes, IsImageOf, AsmComesTo, RunComesTo, first_input, image_file}
 use Rattle.nml_suite.specs.Told.{EndsIn}
 use Rattle.nml_suite.specs.Form.{Form, Check, Asm, Dis, Run, Cc, Ceval, Demo}
-use Rattle.nml_suite.specs.Outcome.{Work, Written, usage_line, lex_fault, not_built, not_built_file, no_match, bad_input, assembled, told_run}
+use Rattle.nml_suite.specs.Outcome.{Work, Written, usage_line, description_fault, not_built, not_built_file, no_match, bad_input, assembled, told_run}
 use Rattle.nml_suite.specs.Reading.{Reading, Got, Absent, TooLong}
 use Rattle.nml_suite.specs.declared.purpose.Purpose.TheVariants as purposes
 use Rattle.nml_suite.specs.declared.status.Status.{Status}
@@ -66,19 +69,19 @@ pub record HasLongFile (before now : Moment) (form : Option Form) : Type 0 where
   pub long : IsTooLong before.store.held name
   pub text : Took before.taken now.taken (name ++ codes ": too long\n")
 
--- the description was read, and its bytes are stuck at the place that is told
-pub record HasNoTokens (before now : Moment) (form : Option Form) : Type 0 where
+-- the description was read, and its bytes have the fault that is told
+pub record HasFaultyDescription (before now : Moment) (form : Option Form) : Type 0 where
   pub name : List ℕ
   pub named : NamesDescription form name
   pub bytes : List ℕ
   pub read : Reads before.store.held name bytes
-  pub at : ℕ
-  pub stuck : IsStuckAt bytes at
-  pub text : Took before.taken now.taken (lex_fault name at).text
+  pub fault : DescFault
+  pub faulty : HasFault bytes fault
+  pub text : Took before.taken now.taken (description_fault name fault).text
 
 -- ---- `asm`
 
--- the description of `asm` was read and is not one that is built
+-- the description of `asm` was read, and its bytes spell a tree without `float` that is no description that is built
 pub record HasOtherDescription (before now : Moment) (form : Option Form) : Type 0 where
   pub description : List ℕ
   pub source : List ℕ
@@ -86,6 +89,9 @@ pub record HasOtherDescription (before now : Moment) (form : Option Form) : Type
   pub is : form ≡ Some (Asm description source image)
   pub bytes : List ℕ
   pub read : Reads before.store.held description bytes
+  pub tree : Desc
+  pub is_tree : IsTree bytes tree
+  pub no_float : float_places tree ≡ []
   pub none : (d : Description) → Describes purposes.Assembling bytes d → ⊥
   pub text : Took before.taken now.taken (not_built_file description).text
 
@@ -135,7 +141,7 @@ pub record HasWords (before now : Moment) (form : Option Form) : Type 0 where
 
 -- ---- `run`
 
--- the description of `run` was read and is not one with PC
+-- the description of `run` was read, and its bytes spell a tree without `float` that is no description with PC
 pub record HasNoMachine (before now : Moment) (form : Option Form) : Type 0 where
   pub description : List ℕ
   pub image : List ℕ
@@ -144,6 +150,9 @@ pub record HasNoMachine (before now : Moment) (form : Option Form) : Type 0 wher
   pub is : form ≡ Some (Run description image input steps)
   pub bytes : List ℕ
   pub read : Reads before.store.held description bytes
+  pub tree : Desc
+  pub is_tree : IsTree bytes tree
+  pub no_float : float_places tree ≡ []
   pub none : (d : Description) → Describes purposes.Running bytes d → ⊥
   pub text : Took before.taken now.taken (not_built_file description).text
 
@@ -210,7 +219,7 @@ HasCause before now form statuses.TooLong = HasLongFile before now form
 HasCause before now form statuses.NotBuilt =
     (IsOther form × Took before.taken now.taken not_built.text)
     ⊎ ((HasOtherDescription before now form ⊎ HasOtherText before now form) ⊎ (HasNoMachine before now form ⊎ HasNoImage before now form))
-HasCause before now form statuses.Description = HasNoTokens before now form
+HasCause before now form statuses.Description = HasFaultyDescription before now form
 HasCause before now form statuses.Source = HasBadLine before now form
 HasCause before now form statuses.Input = HasBadInput before now form
 HasCause before now form statuses.Done = HasWords before now form ⊎ HasRun before now form (λ s. s ≡ Halted 0)

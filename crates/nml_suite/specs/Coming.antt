@@ -5,8 +5,13 @@ use Rattle.sha2.specs.Sha256.{sha256}
 use Rattle.nk_base.specs.Byte.{is_blank}
 use Rattle.nml_tree.specs.Description.{Description}
 use Rattle.nml_tree.specs.IsPlain.{word_width, pc_width}
-use Rattle.nml_tree.specs.ReadAs.{ReadsAs}
-use Rattle.nml_lex.specs.Lexed.{Piece, HasPieces, IsStuckAt}
+use Rattle.nml_tree.specs.Floats.{float_places}
+use Rattle.nml_tree.specs.PlainTree.{IsPlainTree}
+use Rattle.nml_tree.specs.declared.tree.Desc.{Desc}
+use Rattle.nml_tree.specs.declared.fault.DescFault.{DescFault}
+use Rattle.nml_tree.specs.declared.fault.DescFault.TheVariants as faults
+use Rattle.nml_lex.specs.Lexed.{IsStuckAt}
+use Rattle.nml_read.specs.Trees.{IsTree, HasNoTree, IsFloat}
 use Rattle.image_file.specs.File.{Picture, IsPlainImage, file}
 use Rattle.asm_tool.specs.Assembly.{Assembles, FailsAt, is_fit}
 use Rattle.asm_tool.specs.PlainText.{lines}
@@ -14,7 +19,7 @@ use Rattle.bit_sim.specs.Machine.{Runs, beginning}
 use Rattle.bit_sim.specs.Machine as machine
 use Rattle.nml_suite.specs.Form.{Form, Check, Asm, Dis, Run, Cc, Ceval, Demo}
 use Rattle.nml_suite.specs.Reading.{Reading, Got, IsShort}
-use Rattle.nml_suite.specs.Outcome.{Work, Written, outcome, telling, unread, usage_line, lex_fault, not_built, not_built_file, no_match, bad_input, assembled, told_run}
+use Rattle.nml_suite.specs.Outcome.{Work, Written, outcome, telling, unread, usage_line, description_fault, not_built, not_built_file, no_match, bad_input, assembled, told_run}
 use Rattle.nml_suite.specs.declared.purpose.Purpose.{Purpose}
 use Rattle.nml_suite.specs.declared.purpose.Purpose.TheVariants as purposes
 use Rattle.nml_suite.specs.declared.status.Status.TheVariants as statuses
@@ -39,21 +44,28 @@ abbrev pub is_built : Purpose → Description → Bool
 is_built purposes.Assembling d = has_pc d || is_bare d
 is_built purposes.Running d = has_pc d
 
--- the bytes spell a description that is built
+-- the bytes have this fault; want of memory is none of theirs
+abbrev pub HasFault : List ℕ → DescFault → Type 0
+HasFault bytes (faults.Lex at) = IsStuckAt bytes at
+HasFault bytes (faults.Syntax at) = HasNoTree bytes at
+HasFault bytes (faults.Float at) = IsFloat bytes at
+HasFault bytes faults.Memory = ⊥
+
+-- the bytes spell a tree without `float`, which is this plain description, and it is built
 pub record Describes (purpose : Purpose) (bytes : List ℕ) (d : Description) : Type 0 where
-  pub reads : ReadsAs bytes d
+  pub tree : Desc
+  pub is : IsTree bytes tree
+  pub no_float : float_places tree ≡ []
+  pub plain : IsPlainTree tree d
   pub built : IsTrue (is_built purpose d)
 
--- the bytes have tokens
-abbrev pub HasTokens : List ℕ → Type 0
-HasTokens bytes = (ps : List Piece) × HasPieces bytes ps
-
--- The bytes are looked at as a description: where they have no tokens, or spell none that is built, the call ends with that, else it goes on
--- with it.
+-- The bytes are looked at as a description: where they have a fault, or spell a tree that is no description that is built, the call ends with
+-- that, else it goes on with the description.
 pub data Spells (purpose : Purpose) (name bytes : List ℕ) (goes : Description → Work → Type 0) (w : Work) : Type 0 where
-  NoTokens : (at : ℕ) → IsStuckAt bytes at → w ≡ telling (lex_fault name at) → Spells purpose name bytes goes w
-  NoDescription : HasTokens bytes → ((d : Description) → Describes purpose bytes d → ⊥) → w ≡ telling (not_built_file name) → Spells purpose name bytes goes w
-  Described : HasTokens bytes → (d : Description) → Describes purpose bytes d → goes d w → Spells purpose name bytes goes w
+  Faulty : (fault : DescFault) → HasFault bytes fault → w ≡ telling (description_fault name fault) → Spells purpose name bytes goes w
+  NoDescription : (tree : Desc) → IsTree bytes tree → float_places tree ≡ [] → ((d : Description) → Describes purpose bytes d → ⊥)
+      → w ≡ telling (not_built_file name) → Spells purpose name bytes goes w
+  Described : (d : Description) → Describes purpose bytes d → goes d w → Spells purpose name bytes goes w
 
 -- ---- `asm`
 

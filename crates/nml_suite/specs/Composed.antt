@@ -1,14 +1,14 @@
 -- How the two commands compose: what `run` does with the image that `asm` wrote.
 use Rattle.std.specs.Prelude.{◌≡◌, ℕ, List, Some, None}
 use Rattle.nml_tree.specs.Description.{Description}
-use Rattle.nml_tree.specs.ReadAs.{ReadsAs}
 use Rattle.asm_tool.specs.Assembly.{Assembles}
 use Rattle.asm_tool.specs.PlainText.{lines}
 use Rattle.bit_sim.specs.Machine.{Runs, beginning}
 use Rattle.bit_sim.specs.Machine as machine
-use Rattle.nml_suite.specs.Coming.{AsmComesTo, first_input}
+use Rattle.nml_suite.specs.Coming.{Describes, AsmComesTo, first_input}
 use Rattle.nml_suite.specs.Outcome.{Work, Written, telling, told_run}
 use Rattle.nml_suite.specs.Reading.{Got}
+use Rattle.nml_suite.specs.declared.purpose.Purpose.TheVariants as purposes
 
 -- from these bytes of a description and of a text `asm` makes this file, whatever the names
 pub record Makes (bytes text : List ℕ) (file : Written) : Type 0 where
@@ -26,7 +26,7 @@ IsBlank entry = first_input 1 (lines entry) ≡ None
 -- what is told is the run of the words of the text, on the machine that the description's bytes spell
 pub record RunsText (bytes text : List ℕ) (steps : ℕ) (w : Work) : Type 0 where
   pub description : Description
-  pub reads : ReadsAs bytes description
+  pub described : Describes purposes.Running bytes description
   pub words : List ℕ
   pub assembles : Assembles description (lines text) words
   pub run : machine.Outcome

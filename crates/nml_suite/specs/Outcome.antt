@@ -4,6 +4,8 @@ use Rattle.std.specs.Fmt.{decimal, signed_decimal}
 use Rattle.nk_base.specs.Hexadecimal.{hexadecimal, digits_of_word}
 use Rattle.bit_sim.specs.Machine.{Stop, Running, Halted, NoWord, BadWord}
 use Rattle.bit_sim.specs.Machine as machine
+use Rattle.nml_tree.specs.declared.fault.DescFault.{DescFault}
+use Rattle.nml_tree.specs.declared.fault.DescFault.TheVariants as faults
 use Rattle.nml_suite.specs.Reading.{Reading, Got, Absent, Failed, TooLong, Unread}
 use Rattle.nml_suite.specs.declared.status.Status.{Status}
 use Rattle.nml_suite.specs.declared.status.Status.TheVariants as statuses
@@ -41,9 +43,16 @@ usage_line = codes "usage: check D, asm D S I, dis D I, run D I X n, cc D C I, c
 abbrev pub not_built : Outcome
 not_built = outcome statuses.NotBuilt (codes "not built\n")
 
--- the byte at this place of a description begins no token, or its token is over its limit
-abbrev pub lex_fault : List ℕ → ℕ → Outcome
-lex_fault name at = outcome statuses.Description (name ++ codes ": N1 Lex " ++ decimal at ++ codes "\n")
+-- a fault of a description, with its place; want of memory isn't one that is told so
+abbrev pub fault_text : DescFault → List ℕ
+fault_text (faults.Lex at) = codes "N1 Lex " ++ decimal at
+fault_text (faults.Syntax at) = codes "N2 Syntax " ++ decimal at
+fault_text (faults.Float at) = codes "N3 Float " ++ decimal at
+fault_text faults.Memory = []
+
+-- a description that has this fault
+abbrev pub description_fault : List ℕ → DescFault → Outcome
+description_fault name fault = outcome statuses.Description (name ++ codes ": " ++ fault_text fault ++ codes "\n")
 
 -- a file that isn't of the form that is built
 abbrev pub not_built_file : List ℕ → Outcome

@@ -1,20 +1,25 @@
 -- For private contracts: what a refusal is as an outcome, what a step of a command refuses, and what the reading of its files comes to.
-use Rattle.std.specs.Prelude.{◌≡◌, ◌≤◌, ◌+◌, ◌⊎◌, ℕ, List, Option, Some, None, Result, Ok, Err, IsTrue, IsFalse}
+use Rattle.std.specs.Prelude.{◌≡◌, ◌≤◌, ◌+◌, ◌⊎◌, ℕ, List, [], Option, Some, None, Result, Ok, Err, IsTrue, IsFalse}
 use Rattle.std.specs.Global.{Vec}
 use Rattle.nml_tree.specs.Description.{Description, description_of}
+use Rattle.nml_tree.specs.Floats.{float_places}
 use Rattle.nml_tree.specs.IsPlain.{word_width}
+use Rattle.nml_tree.specs.PlainTree.{IsPlainTree}
+use Rattle.nml_tree.specs.declared.tree.Desc.{Desc}
+use Rattle.nml_tree.specs.declared.fault.DescFault.{DescFault}
+use Rattle.nml_tree.specs.declared.fault.DescFault.TheVariants as faults
 use Rattle.nml_tree.specs.declared.rules.Plain.{Plain}
 use Rattle.image_file.specs.File.{Picture}
 use Rattle.image_file.specs.Seen.{picture_of}
 use Rattle.image_file.specs.declared.image.Image.{Image}
 use Rattle.asm_tool.specs.Assembly.{Assembles, FailsAt, is_fit}
 use Rattle.asm_tool.specs.PlainText.{lines}
-use Rattle.nml_lex.specs.Lexed.{IsStuckAt}
+use Rattle.nml_read.specs.Trees.{IsTree}
 use Rattle.nk_outside.specs.Count.{Counts, Rose}
 use Rattle.nk_outside.specs.Held.{Names, SameElsewhere}
 use Rattle.nml_suite.specs.Answer.{Store, ReadsThree, HasWritten}
-use Rattle.nml_suite.specs.Coming.{Describes, HasTokens, IsImageOf, AsmComesTo, RunComesTo, image_file, first_input}
-use Rattle.nml_suite.specs.Outcome.{Outcome, Work, Written, telling, starved, unread, write_failed, lex_fault, not_built_file, no_match, bad_input, assembled}
+use Rattle.nml_suite.specs.Coming.{HasFault, Describes, is_built, IsImageOf, AsmComesTo, RunComesTo, image_file, first_input}
+use Rattle.nml_suite.specs.Outcome.{Outcome, Work, Written, telling, starved, unread, write_failed, description_fault, not_built_file, no_match, bad_input, assembled}
 use Rattle.nml_suite.specs.Reading.{Reading, Got, Absent, Failed, TooLong, IsShort, HasReading, asked}
 use Rattle.nml_suite.specs.declared.assemble.Assembled.{Assembled}
 use Rattle.nml_suite.specs.declared.purpose.Purpose.{Purpose}
@@ -29,7 +34,9 @@ refused (refusals.Absent name) = unread name.now Absent
 refused (refusals.Failed name) = unread name.now Failed
 refused (refusals.TooLong name) = unread name.now TooLong
 refused (refusals.Unwritten name) = write_failed name.now
-refused (refusals.Lex name at) = lex_fault name.now at
+refused (refusals.Lex name at) = description_fault name.now (faults.Lex at)
+refused (refusals.Syntax name at) = description_fault name.now (faults.Syntax at)
+refused (refusals.Float name at) = description_fault name.now (faults.Float at)
 refused (refusals.NotBuilt name) = not_built_file name.now
 refused (refusals.NoMatch name line) = no_match name.now line
 refused (refusals.Input name line) = bad_input name.now line
@@ -50,38 +57,41 @@ abbrev pub IsLoaded : Option Names → Counts → Counts → List ℕ → Result
 IsLoaded held before now name (Ok bytes) = HasReading held before now name (Got bytes.items)
 IsLoaded held before now name (Err refusal) = IsUnread held before now name (refused refusal)
 
--- the bytes of this name have no tokens
-pub record IsNoTokens (name bytes : List ℕ) (o : Outcome) : Type 0 where
-  pub at : ℕ
-  pub stuck : IsStuckAt bytes at
-  pub is : o ≡ lex_fault name at
+-- the bytes of this name have a fault
+pub record IsFaulty (name bytes : List ℕ) (o : Outcome) : Type 0 where
+  pub fault : DescFault
+  pub faulty : HasFault bytes fault
+  pub is : o ≡ description_fault name fault
 
--- the bytes of this name have tokens, and are no description that is built
+-- the bytes of this name spell a tree without `float`, which is no description that is built
 pub record IsNoDescription (purpose : Purpose) (name bytes : List ℕ) (o : Outcome) : Type 0 where
-  pub tokens : HasTokens bytes
+  pub tree : Desc
+  pub is_tree : IsTree bytes tree
+  pub no_float : float_places tree ≡ []
   pub none : (d : Description) → Describes purpose bytes d → ⊥
   pub is : o ≡ not_built_file name
 
--- the bytes have tokens, and are the description
-pub record IsPlainText (purpose : Purpose) (bytes : List ℕ) (d : Description) : Type 0 where
-  pub tokens : HasTokens bytes
-  pub describes : Describes purpose bytes d
-
--- the bytes are the description; or they have no tokens, or are none, or memory was wanted
+-- the bytes are the description; or they have a fault, or are none, or memory was wanted
 abbrev pub IsDescribed : Purpose → List ℕ → List ℕ → Result Plain Refusal → Type 0
-IsDescribed purpose name bytes (Ok p) = IsPlainText purpose bytes (description_of p)
-IsDescribed purpose name bytes (Err refusal) = Wants refusal ⊎ (IsNoTokens name bytes (refused refusal) ⊎ IsNoDescription purpose name bytes (refused refusal))
+IsDescribed purpose name bytes (Ok p) = Describes purpose bytes (description_of p)
+IsDescribed purpose name bytes (Err refusal) =
+    Wants refusal ⊎ (IsFaulty name bytes (refused refusal) ⊎ IsNoDescription purpose name bytes (refused refusal))
 
--- the bytes have tokens; or they have none, or memory was wanted
-abbrev pub IsLexed : List ℕ → List ℕ → Result (Unit {0}) Refusal → Type 0
-IsLexed name bytes (Ok done) = HasTokens bytes
-IsLexed name bytes (Err refusal) = Wants refusal ⊎ IsNoTokens name bytes (refused refusal)
+-- the bytes spell the tree, which has no `float`; or they have a fault, or memory was wanted
+abbrev pub IsSpelled : List ℕ → List ℕ → Result Desc Refusal → Type 0
+IsSpelled name bytes (Ok tree) = IsTree bytes tree × (float_places tree ≡ [])
+IsSpelled name bytes (Err refusal) = Wants refusal ⊎ IsFaulty name bytes (refused refusal)
 
--- the bytes are the description that is built, or there is none, or memory was wanted
-abbrev pub IsSpelled : Purpose → List ℕ → List ℕ → Result Plain Refusal → Type 0
-IsSpelled purpose name bytes (Ok p) = Describes purpose bytes (description_of p)
-IsSpelled purpose name bytes (Err refusal) =
-    Wants refusal ⊎ ((refused refusal ≡ not_built_file name) × ((d : Description) → Describes purpose bytes d → ⊥))
+-- the tree is this description, which is built
+pub record IsBuiltTree (purpose : Purpose) (tree : Desc) (d : Description) : Type 0 where
+  pub plain : IsPlainTree tree d
+  pub built : IsTrue (is_built purpose d)
+
+-- the tree is the description, or none that is built, or memory was wanted
+abbrev pub IsDescribedBy : Purpose → List ℕ → Desc → Result Plain Refusal → Type 0
+IsDescribedBy purpose name tree (Ok p) = IsBuiltTree purpose tree (description_of p)
+IsDescribedBy purpose name tree (Err refusal) =
+    Wants refusal ⊎ ((refused refusal ≡ not_built_file name) × ((d : Description) → IsBuiltTree purpose tree d → ⊥))
 
 -- ---- `asm`
 
@@ -181,7 +191,7 @@ pub record IsReady (before now : Store) (description image input : List ℕ) (p 
   pub bits : List ℕ
   pub text : List ℕ
   pub readings : ReadsThree before now description image input (Got bytes) (Got bits) (Got text)
-  pub described : IsPlainText purposes.Running bytes (description_of p)
+  pub described : Describes purposes.Running bytes (description_of p)
   pub image_is : IsImageOf bytes (description_of p) bits (picture_of i)
   pub blank : first_input 1 (lines text) ≡ None
 

@@ -2,12 +2,13 @@
 use Rattle.std.specs.Prelude.{◌≡◌, [], ◌∷◌, Some, None, true, false, codes, refl, pos, negsuc}
 use Rattle.std.specs.Fmt.{digits}
 use Rattle.nml_tree.specs.SampleMachine as sample
+use Rattle.nml_tree.specs.declared.fault.DescFault.TheVariants as faults
 use Rattle.image_file.specs.File.{file}
 use Rattle.asm_tool.specs.PlainText.{lines}
 use Rattle.bit_sim.specs.Sample as runs
 use Rattle.nml_suite.specs.Coming.{RunsTo, Input, Ran, first_input, image_file, is_built, picture}
 use Rattle.nml_suite.specs.Form.{Asm, Run, Demo, form_of}
-use Rattle.nml_suite.specs.Outcome.{lex_fault, outcome, output_lines, telling, word_lines}
+use Rattle.nml_suite.specs.Outcome.{description_fault, outcome, output_lines, telling, word_lines}
 use Rattle.nml_suite.specs.declared.purpose.Purpose.TheVariants as purposes
 use Rattle.nml_suite.specs.declared.status.Status.TheVariants as statuses
 
@@ -41,9 +42,17 @@ two_outputs : output_lines (pos 5 ∷ negsuc 127 ∷ []) ≡ codes "5\n-128\n"
 unfolding digits
 two_outputs = refl
 
-stuck_line : (lex_fault (codes "m") 19).text ≡ codes "m: N1 Lex 19\n"
+stuck_line : (description_fault (codes "m") (faults.Lex 19)).text ≡ codes "m: N1 Lex 19\n"
 unfolding digits
 stuck_line = refl
+
+syntax_line : (description_fault (codes "m") (faults.Syntax 7)).text ≡ codes "m: N2 Syntax 7\n"
+unfolding digits
+syntax_line = refl
+
+float_line : (description_fault (codes "m") (faults.Float 9)).text ≡ codes "m: N3 Float 9\n"
+unfolding digits
+float_line = refl
 
 -- rules alone are assembled and not run
 assembles_rules : is_built purposes.Assembling sample.machine ≡ true

@@ -2,18 +2,18 @@ ghost use Rattle.std.specs.Prelude.{◌≡◌, ◌≤◌, ◌&&◌, length, nat_
 ghost use Rattle.std.specs.List.{list_all};
 ghost use Rattle.nml_suite.specs.Coming as spec;
 ghost use Rattle.nk_outside.specs.Held.{file_limit};
-ghost use Rattle.nml_suite.specs.Refused.{IsDescribed, IsLexed, IsSpelled, refused};
+ghost use Rattle.nml_suite.specs.Refused.{IsDescribed, IsSpelled, IsDescribedBy, refused};
 ghost use Rattle.nml_suite.specs.Outcome.{not_built_file};
 ghost use Rattle.nml_tree.specs.Description.{description_of};
 
 use crate::purpose::Purpose;
 use crate::refusal::Refusal;
 use nk_base::{Memory, Text};
-use nml_lex::lex;
-use nml_tree::{DescFault, Plain, PlainRule, plain};
+use nml_read::read;
+use nml_tree::{Desc, DescFault, Plain, PlainRule, plain_of};
 use std::alloc::Global;
 
-/// The description that the bytes of the named file spell, where it is one that is built for this purpose. Bytes without tokens are refused
+/// The description that the bytes of the named file spell, where it is one that is built for this purpose. Bytes with a fault are refused
 /// first.
 pub fn describe<'a>(
     alloc: Global,
@@ -24,32 +24,34 @@ pub fn describe<'a>(
     requires { length bytes.now ≤ file_limit }
     ensures { IsDescribed purpose name.now bytes.now result }
 {
-    refuse_bytes(alloc, name, bytes)?;
-    spelled(alloc, name, bytes, purpose)
+    let tree = spelled(alloc, name, bytes)?;
+    described(alloc, name, &tree, purpose)
 }
 
-/// Refuses the bytes of the named file where they have no tokens.
-fn refuse_bytes<'a>(alloc: Global, name: &'a Text, bytes: &[u8]) -> Result<(), Refusal<'a>>
+/// The tree that the bytes of the named file spell.
+fn spelled<'a>(alloc: Global, name: &'a Text, bytes: &[u8]) -> Result<Desc, Refusal<'a>>
     requires { length bytes.now ≤ file_limit }
-    ensures { IsLexed name.now bytes.now result }
+    ensures { IsSpelled name.now bytes.now result }
 {
-    match lex(alloc, bytes) {
-        Ok(_) => Ok(()),
+    match read(alloc, bytes) {
+        Ok(tree) => Ok(tree),
         Err(DescFault::Lex { at }) => Err(Refusal::Lex(name, at)),
+        Err(DescFault::Syntax { at }) => Err(Refusal::Syntax(name, at)),
+        Err(DescFault::Float { at }) => Err(Refusal::Float(name, at)),
         Err(DescFault::Memory) => Err(Refusal::Memory),
     }
 }
 
-/// The description that the bytes of the named file spell, where it is one that is built for this purpose.
-fn spelled<'a>(
+/// The description that the tree is, where it is one that is built for this purpose.
+fn described<'a>(
     alloc: Global,
     name: &'a Text,
-    bytes: &[u8],
+    tree: &Desc,
     purpose: Purpose,
 ) -> Result<Plain, Refusal<'a>>
-    ensures { IsSpelled purpose name.now bytes.now result }
+    ensures { IsDescribedBy purpose name.now tree.now result }
 {
-    match plain(alloc, bytes) {
+    match plain_of(alloc, tree) {
         Ok(Some(found)) => built(name, found, purpose),
         Ok(None) => Err(Refusal::NotBuilt(name)),
         Err(Memory) => Err(Refusal::Memory),

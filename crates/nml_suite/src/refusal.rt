@@ -17,6 +17,10 @@ pub enum Refusal<'a> {
     Unwritten(&'a Text),
     /// The byte at the place of a description begins no token, or its token is over its limit.
     Lex(&'a Text, u32),
+    /// No description has the tokens of the bytes up to the place.
+    Syntax(&'a Text, u32),
+    /// The first type `float` of a description stands at the place.
+    Float(&'a Text, u32),
     NotBuilt(&'a Text),
     /// No instruction has the tokens of the line.
     NoMatch(&'a Text, u64),
@@ -34,7 +38,8 @@ impl Refusal<'_> {
             Refusal::Absent(_) | Refusal::Failed(_) => Status::Read,
             Refusal::TooLong(_) => Status::TooLong,
             Refusal::Unwritten(_) => Status::Write,
-            Refusal::Lex(_, _) => Status::Description,
+            Refusal::Lex(_, _) | Refusal::Syntax(_, _) | Refusal::Float(_, _) =>
+                Status::Description,
             Refusal::NotBuilt(_) => Status::NotBuilt,
             Refusal::NoMatch(_, _) => Status::Source,
             Refusal::Input(_, _) => Status::Input,
@@ -52,6 +57,8 @@ impl Refusal<'_> {
             Refusal::TooLong(name) => named(alloc, name, b": too long\n"),
             Refusal::Unwritten(name) => named(alloc, name, b": write failed\n"),
             Refusal::Lex(name, at) => numbered(alloc, name, b": N1 Lex ", u64::from(*at)),
+            Refusal::Syntax(name, at) => numbered(alloc, name, b": N2 Syntax ", u64::from(*at)),
+            Refusal::Float(name, at) => numbered(alloc, name, b": N3 Float ", u64::from(*at)),
             Refusal::NotBuilt(name) => named(alloc, name, b": not built\n"),
             Refusal::NoMatch(name, line) => numbered(alloc, name, b": S3 NoMatch ", *line),
             Refusal::Input(name, line) => numbered(alloc, name, b": Input ", *line),

@@ -38,6 +38,24 @@ op hlt(k: card(2))
   action = { halt(k); }
 ";
 
+/// The same machine, with a comment and numbers of other bases.
+const NUMBERED: &str = "reg PC[0x1, card(0b100)] // the counter
+reg A[0b1, int(0x8)]
+out OUT[int(8)]
+op instruction = ldi | outa | hlt
+op ldi(n: int(0x08))
+  syntax = format(\"ldi %d\", n)
+  image = format(\"01%8b\", n)
+  action = { A = n; }
+op outa()
+  syntax = \"outa\" image = \"1000000000\"
+  action = { OUT = A; }
+op hlt(k: card(2))
+  syntax = format(\"hlt %d\", k)
+  image = format(\"00000000%2b\", k)
+  action = { halt(k); }
+";
+
 /// What `sha256sum` tells of M1.
 const M1_DIGEST: &str = "2e415fb8986fcfa9483de63d0e5f98146c3a4d87b903e4a795ceee23dc49ef43";
 
@@ -210,6 +228,13 @@ fn assembles_texts(rt: HostRuntime) -> Result<(), Fail> {
             "ok: 0 words\n",
             Some(b"\0\0\0\0\0\0\0\0".as_slice()),
         ),
+        (
+            NUMBERED,
+            SOURCE,
+            Status::Done,
+            "105\n200\n000\nok: 3 words\n",
+            Some(WORDS),
+        ),
         (M1, "ldi 128", Status::Source, "s: S3 NoMatch 1\n", None),
         (
             M1,
@@ -279,6 +304,13 @@ fn runs_what_it_assembles(rt: HostRuntime) -> Result<(), Fail> {
     for (machine, source, line, status, text) in [
         (M1, SOURCE, "run d i x 10", Status::Done, "5\nhalted 0\n"),
         (
+            NUMBERED,
+            SOURCE,
+            "run d i x 10",
+            Status::Done,
+            "5\nhalted 0\n",
+        ),
+        (
             M1,
             "outa\nhlt 0",
             "run d i x 1",
@@ -347,6 +379,10 @@ fn tells_files_apart(rt: HostRuntime) -> Result<(), Fail> {
         ("action", ACTION.as_bytes()),
         ("broken", b"reg \"".as_slice()),
         ("comment", b"reg /* PC".as_slice()),
+        ("wrong_token", b"reg PC 1, card(4)]".as_slice()),
+        ("too_short", b"op instruction =".as_slice()),
+        ("float", b"type f = float(8,23)\nmem M[4, q]\n".as_slice()),
+        ("no_rule", b"op instruction = a".as_slice()),
         ("s", SOURCE.as_bytes()),
         ("image", image.as_slice()),
         ("cut", cut.as_slice()),
@@ -363,11 +399,35 @@ fn tells_files_apart(rt: HostRuntime) -> Result<(), Fail> {
         ("asm m1 absent i", Status::Read, "absent: absent\n", 2),
         ("asm long s i", Status::TooLong, "long: too long\n", 1),
         ("asm m1 long i", Status::TooLong, "long: too long\n", 2),
-        ("asm s s i", Status::NotBuilt, "s: not built\n", 1),
+        ("asm s s i", Status::Description, "s: N2 Syntax 0\n", 1),
         (
             "asm broken s i",
             Status::Description,
             "broken: N1 Lex 4\n",
+            1,
+        ),
+        (
+            "asm wrong_token s i",
+            Status::Description,
+            "wrong_token: N2 Syntax 7\n",
+            1,
+        ),
+        (
+            "asm too_short s i",
+            Status::Description,
+            "too_short: N2 Syntax 16\n",
+            1,
+        ),
+        (
+            "asm float s i",
+            Status::Description,
+            "float: N3 Float 9\n",
+            1,
+        ),
+        (
+            "asm no_rule s i",
+            Status::NotBuilt,
+            "no_rule: not built\n",
             1,
         ),
         ("asm action s i", Status::NotBuilt, "action: not built\n", 1),
@@ -387,6 +447,18 @@ fn tells_files_apart(rt: HostRuntime) -> Result<(), Fail> {
             "run comment image x 5",
             Status::Description,
             "comment: N1 Lex 4\n",
+            1,
+        ),
+        (
+            "run wrong_token image x 5",
+            Status::Description,
+            "wrong_token: N2 Syntax 7\n",
+            1,
+        ),
+        (
+            "run float image x 5",
+            Status::Description,
+            "float: N3 Float 9\n",
             1,
         ),
         ("run m1 cut x 5", Status::NotBuilt, "cut: not built\n", 2),
@@ -411,7 +483,7 @@ fn tells_files_apart(rt: HostRuntime) -> Result<(), Fail> {
         let (answer, told) = call(alloc, line, &mut files, 0)?;
         assert_eq!(rt; answer, status, "{line}");
         assert_eq!(rt; told.as_slice(), text.as_bytes(), "{line}");
-        assert_eq!(rt; (files.calls, files.files.len()), (calls, 16), "{line}");
+        assert_eq!(rt; (files.calls, files.files.len()), (calls, 20), "{line}");
     }
     Ok(())
 }

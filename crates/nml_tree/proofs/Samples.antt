@@ -1,5 +1,5 @@
--- The sample machine's texts with numbers in them, that it is plain, and a spelling that it doesn't have.
-use Rattle.std.proofs.Common.{◌≡◌, refl, ap, ◌∙◌, ℕ, List, negsuc, [], ◌∷◌, codes, lit<, lit≤, arith, AllPairs, length, inl, inr, None}
+-- The sample machine's texts with numbers in them, that it is plain, and that its tree is the machine.
+use Rattle.std.proofs.Common.{◌≡◌, refl, ◌∙◌, ℕ, List, negsuc, [], ◌∷◌, codes, lit<, lit≤, arith, AllPairs, None, Some}
 use Rattle.std.proofs.lemmas.Fmt.{decimal-digits_of}
 use Rattle.std.proofs.lemmas.List.Elements.{All-from_recursion}
 use Rattle.std.proofs.lemmas.List.Kept.{AllPairs-cons}
@@ -9,9 +9,13 @@ use Rattle.nml_tree.specs.Attribute.{syntax_of}
 use Rattle.nml_tree.specs.Description.{Field}
 use Rattle.nml_tree.specs.IsPlain.{IsPlain, IsRule, IsAction, AreApart}
 use Rattle.nml_tree.specs.LineToken.{Word, Number, line_tokens}
-use Rattle.nml_tree.specs.SampleMachine.{ldi, outa, hlt, machine}
-use Rattle.nml_tree.specs.Spelling.{IsTextSpelling}
-use Rattle.nml_tree.specs.Token.{Quoted}
+use Rattle.nml_tree.specs.SampleMachine.{ldi, outa, hlt, machine, running_machine}
+use Rattle.nml_tree.specs.Formula.{Named}
+use Rattle.nml_tree.specs.Block.{Done, Assign, Halt, block}
+use Rattle.nml_tree.specs.PlainTree.{description_in}
+use Rattle.nml_tree.specs.SamplePlain.{name, ldi_stmts, outa_stmts, hlt_stmts, running_tree}
+use Rattle.nml_tree.proofs.FormulaLaws.{formula_laws}
+use Rattle.nml_tree.proofs.BlockLaws.{block_laws}
 
 -- the library's decimal text doesn't compute, but its digits do
 five : decimal 5 ≡ codes "5"
@@ -82,7 +86,15 @@ plain_machine = record {
   leading_apart = texts_apart;
 }
 
--- a rule with a field isn't spelled with a string alone
-pub string_with_field : (text : List ℕ) → IsTextSpelling hlt.fields text (Quoted text ∷ []) → ⊥
-string_with_field text (inl e) = absurd (omega (arith, ap length e))
-string_with_field text (inr h) = absurd (omega (arith, ap length h.0))
+ldi_is : block ldi_stmts ≡ Assign (name (codes "A")) None 0 (Named (name (codes "n"))) 0 Done
+ldi_is = simp (block_laws, formula_laws) refl
+
+outa_is : block outa_stmts ≡ Assign (name (codes "OUT")) None 0 (Named (name (codes "A"))) 0 Done
+outa_is = simp (block_laws, formula_laws) refl
+
+hlt_is : block hlt_stmts ≡ Halt 0 0 (Named (name (codes "k"))) 0 0 Done
+hlt_is = simp (block_laws, formula_laws) refl
+
+-- the tree of the running machine is it
+pub running_tree_is : description_in running_tree ≡ Some running_machine
+running_tree_is = rw (ldi_is, outa_is, hlt_is) refl

@@ -7,23 +7,13 @@ use Rattle.nk_base.specs.Text.{text_eq}
 use Rattle.nk_base.specs.Number.{IsWidth, width_of}
 use Rattle.nk_base.specs.declared.number.Ty.{Ty}
 use Rattle.nk_base.specs.declared.number.Ty.TheVariants as ty
+use Rattle.nml_tree.specs.Keyword.{is_keyword}
 use Rattle.nml_tree.specs.Description.{Field, Rule, Description}
 use Rattle.nml_tree.specs.declared.rules.PlainStmt.{PlainStmt}
 use Rattle.nml_tree.specs.declared.rules.PlainStmt.TheVariants as stmt
 use Rattle.nml_tree.specs.declared.rules.PlainValue.{PlainValue}
 use Rattle.nml_tree.specs.declared.rules.PlainValue.TheVariants as value
 use Rattle.nml_tree.specs.Attribute.{Piece, Letter, Directive, pieces, parts, directive}
-
--- the keywords of a description; none is a name
-abbrev pub keywords : List (List ℕ)
-keywords =
-    codes "let" ∷ codes "type" ∷ codes "mem" ∷ codes "reg" ∷ codes "trn" ∷ codes "inp" ∷ codes "out" ∷ codes "op"
-    ∷ codes "opn" ∷ codes "mode" ∷ codes "syntax" ∷ codes "image" ∷ codes "action" ∷ codes "format" ∷ codes "if" ∷ codes "then"
-    ∷ codes "else" ∷ codes "endif" ∷ codes "bool" ∷ codes "card" ∷ codes "int" ∷ codes "fix" ∷ codes "float" ∷ codes "sat"
-    ∷ codes "bits" ∷ codes "halt" ∷ codes "true" ∷ codes "false" ∷ []
-
-abbrev pub is_keyword : List ℕ → Bool
-is_keyword word = list_any (text_eq word) keywords
 
 -- a field takes `card(n)` or `int(n)`, n from 1 to 64
 abbrev pub IsFieldTy : Ty → Type 0

@@ -1,15 +1,11 @@
--- The words, the tokens and the spelling of a machine of three instructions:
+-- The words and the lines of a machine of three instructions:
 --     op instruction = ldi | outa | hlt
 --     op ldi(n: int(8)) syntax = format("ldi %d", n) image = format("01%8b", n)
 --     op outa() syntax = "outa" image = "1000000000"
 --     op hlt(k: card(2)) syntax = format("hlt %d", k) image = format("00000000%2b", k)
 use Rattle.std.specs.Prelude.{◌≡◌, refl, pos, negsuc, List, [], ◌∷◌, ℤ, Some, None, codes}
-use Rattle.std.proofs.Common.{inl, inr}
 use Rattle.nk_base.specs.declared.number.Ty.TheVariants as ty
-use Rattle.nml_tree.specs.Token as token
-use Rattle.nml_tree.specs.Token.{Quoted}
 use Rattle.nml_tree.specs.Description.{Field, Rule, Description}
-use Rattle.nml_tree.specs.Spelling.{IsTextSpelling}
 use Rattle.nml_tree.specs.Attribute.{image_of, number_of}
 use Rattle.nml_tree.specs.Effect.{Effect, effect, after}
 use Rattle.nml_tree.specs.declared.rules.PlainStmt.{PlainStmt}
@@ -51,13 +47,6 @@ padded = refl
 
 pub apart : line_tokens (codes "r5") ≡ line_tokens (codes "r 05")
 apart = refl
-
--- a rule without fields has its text as a string or as a `format` of the string alone
-pub string_alone : IsTextSpelling [] (codes "outa") (Quoted (codes "outa") ∷ [])
-string_alone = inr (refl, refl)
-
-pub format_alone : IsTextSpelling [] (codes "outa") (token.Word (codes "format") ∷ token.Mark 40 ∷ Quoted (codes "outa") ∷ token.Mark 41 ∷ [])
-format_alone = inl refl
 
 -- The same instructions on registers and a port, with actions:
 --     reg PC[1, card(4)]

@@ -1,10 +1,9 @@
 -- A small description as a tree, with the places that its symbols have in the text
 --     let k = - 5 op f ( p : k ) syntax = "f" image = p . image action = { x = a - b * ( c ) ; }
 -- and what some expressions come to. What speaks of an `Expr` or a `Desc` is worked out in proofs/SampleTrees.
-use Rattle.std.specs.Prelude.{◌≡◌, refl, ℕ, zero, suc, true, List, [], ◌∷◌, Option, Some, None, codes}
+use Rattle.std.specs.Prelude.{◌≡◌, refl, ℕ, zero, suc, true, List, [], ◌∷◌, Some, None, codes}
 use Rattle.std.proofs.Common.{lit<, lit≤}
 use Rattle.nml_tree.specs.declared.names.Name.{Name}
-use Rattle.nml_tree.specs.declared.names.Number as num
 use Rattle.nml_tree.specs.declared.operator.Bin.TheVariants as bin
 use Rattle.nml_tree.specs.declared.expression.Expr.{Expr}
 use Rattle.nml_tree.specs.declared.expression.Expr.TheVariants as expr
@@ -25,7 +24,7 @@ use Rattle.nml_tree.specs.Formula as formula
 use Rattle.nml_tree.specs.Block.{Block, Done, Assign, Halt, IfElse}
 use Rattle.nml_tree.specs.Spell.{formula_spelling, block_spelling}
 use Rattle.nml_tree.specs.Level.{IsLeveled}
-use Rattle.nml_tree.specs.Depth.{depth, type_depth, block_depth}
+use Rattle.nml_tree.specs.Depth.{depth, block_depth}
 use Rattle.nml_tree.specs.Floats.{float_places}
 use Rattle.nml_tree.specs.Joined.{joined}
 

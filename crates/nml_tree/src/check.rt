@@ -11,14 +11,17 @@ use crate::check_action::are_actions;
 use crate::check_items::{are_regs, is_port};
 use crate::check_names::names_differ;
 use crate::check_syntax::{first_part, is_syntax};
-use crate::check_word::{are_fields, is_keyword};
+use crate::check_word::are_fields;
 use crate::distinct::{are_apart, are_distinct, field_names};
 use crate::image::{image_width, is_image, leading_digits};
+use crate::keyword::is_keyword;
 use crate::{Plain, PlainField, PlainRule};
 use nk_base::Memory;
 use std::alloc::Global;
 
-/// Whether the description is plain.
+/// Whether the description is plain: `plain_of` gives no other.
+///
+/// The one error is want of memory. The rule is this project's own; docs/LANGUAGES.md states it.
 pub fn is_plain(alloc: Global, p: &Plain) -> Result<bool, Memory>
     ensures { IfOk result (λ b. IsTrue b ↔ IsPlain (description_of p.now)) }
 {

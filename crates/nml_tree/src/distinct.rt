@@ -1,10 +1,9 @@
 //! Texts that differ, and texts of which none begins another.
-ghost use Rattle.std.specs.Prelude.{◌≡◌, ◌↔◌, map, option_map, IsTrue, IfOk, MatchOption, AllPairs};
+ghost use Rattle.std.specs.Prelude.{◌≡◌, ◌↔◌, map, IsTrue, IfOk, MatchOption, AllPairs};
 ghost use Rattle.std.specs.List.{IsDistinct, AllByRecursion};
 ghost use Rattle.nk_base.specs.Text.{text_eq};
 ghost use Rattle.nml_tree.specs.Checked.{LacksFronts};
 ghost use Rattle.nml_tree.specs.Description.{field_of};
-ghost use Rattle.nml_tree.specs.DescriptionReading as spec;
 ghost use Rattle.nml_tree.specs.IsPlain.{AreApart};
 
 use crate::PlainField;
@@ -53,14 +52,6 @@ pub fn set_of(alloc: Global, texts: &[&[u8]]) -> Result<Option<IndexSet<Text>>, 
         }
     }
     Ok(Some(set))
-}
-
-/// The names of the fields as a set; `None` where two are the same.
-pub fn names_of(alloc: Global, fields: &[PlainField]) -> Result<Option<IndexSet<Text>>, Memory>
-    ensures { IfOk result (λ o. option_map (λ s. s.keys) o ≡ spec.names_of (map field_of fields.now)) }
-{
-    let names = field_names(alloc, fields)?;
-    set_of(alloc, &names)
 }
 
 /// The names of the fields.

@@ -6,6 +6,11 @@ use std::alloc::{AllocError, AllocFailed};
 pub enum DescFault {
     /// N1: the byte at this place begins no token, or its token is over its limit.
     Lex { at: u32 },
+    /// N2: no description has these tokens, and none has tokens that begin with those up to this place; the length of the bytes, where
+    /// they end too early.
+    Syntax { at: u32 },
+    /// N3: the first type `float` stands at this place.
+    Float { at: u32 },
     /// Want of memory.
     Memory,
 }

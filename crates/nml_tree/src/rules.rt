@@ -2,7 +2,7 @@ use nk_base::{Text, Ty};
 
 /// A plain description: its registers and its port, and its and-rules in order, which are the alternatives of `instruction`.
 ///
-/// `plain` makes one from bytes, with one rule or more, and then each rule is as said below. The form is this project's
+/// `plain_of` makes one from a tree, with one rule or more, and then each rule is as said below. The form is this project's
 /// own; docs/LANGUAGES.md states it.
 #[derive(Debug, Drop)]
 pub struct Plain {

@@ -6,13 +6,13 @@ use Rattle.nml_lex.proofs.limit.is_within.Goals as goal
 pub returns-then-is_name_start : goal.returns-then-is_name_start
 returns-then-is_name_start c = name_within c.args.text.now c.in-Some.first.now c.in-Some.ensures.value (sym c.is_name_start.ensures ∙ c.if-is_name_start.true) c.requires
 
-pub value_of_number-requires : goal.value_of_number-requires
-value_of_number-requires c = number_first c.args.text.now c.in-Some.first.now c.in-Some.ensures.value (sym c.is_ascii_digit.ensures.value ∙ c.if-is_ascii_digit.true) c.requires
+pub number_value-requires : goal.number_value-requires
+number_value-requires c = number_first c.args.text.now c.in-Some.first.now c.in-Some.ensures.value (sym c.is_ascii_digit.ensures.value ∙ c.if-is_ascii_digit.true) c.requires
 
 pub returns-then-is_ascii_digit : goal.returns-then-is_ascii_digit
 returns-then-is_ascii_digit c =
-    number_within c.args.text.now c.in-Some.first.now c.is_some.result c.value_of_number.result c.in-Some.ensures.value (sym c.is_ascii_digit.ensures.value ∙ c.if-is_ascii_digit.true) c.requires c.is_some.ensures
-    c.value_of_number.ensures
+    number_within c.args.text.now c.in-Some.first.now c.is_some.result c.number_value.result c.in-Some.ensures.value (sym c.is_ascii_digit.ensures.value ∙ c.if-is_ascii_digit.true) c.requires c.is_some.ensures
+    c.number_value.ensures
 
 pub returns-else-first-eq34 : goal.returns-else-first-eq34
 returns-else-first-eq34 c =

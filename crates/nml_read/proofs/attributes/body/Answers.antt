@@ -1,0 +1,18 @@
+-- Each stop is the reading's, and what is found is what it finds.
+use Rattle.std.proofs.lemmas.Result.{err_from_is_err_and}
+use Rattle.nml_read.proofs.Saying.{both, fails, fails_behind}
+use Rattle.nml_read.proofs.attributes.body.Goals as goal
+
+pub returns-in_err-stmts-clause-says : goal.returns-in_err-stmts-clause-says
+returns-in_err-stmts-clause-says c =
+    let p = err_from_is_err_and c.from_residual-in_err-stmts.result c.from_residual-in_err-stmts.ensures.1 in
+    rw (p.1, p.2) (fails_behind _ _ _ _ _ _ c.in_ok-equals.ensures.says (fails_behind _ _ _ _ _ _ c.in_ok-opening.ensures.says (fails _ _ _ _ c.in_err-stmts.ensures.says)))
+
+pub returns-in_err-closing-clause-says : goal.returns-in_err-closing-clause-says
+returns-in_err-closing-clause-says c =
+    let p = err_from_is_err_and c.from_residual-in_err-closing.result c.from_residual-in_err-closing.ensures.1 in
+    rw (p.1, p.2) (fails_behind _ _ _ _ _ _ c.in_ok-equals.ensures.says (fails_behind _ _ _ _ _ _ c.in_ok-opening.ensures.says (fails_behind _ _ _ _ _ _ c.in_ok-stmts.ensures.says c.in_err-closing.ensures.says)))
+
+pub returns-clause-says : goal.returns-clause-says
+returns-clause-says c =
+    both _ _ _ _ _ _ _ c.in_ok-equals.ensures.says (both _ _ _ _ _ _ _ c.in_ok-opening.ensures.says (both _ _ _ _ _ _ _ c.in_ok-stmts.ensures.says c.in_ok-closing.ensures.says))

@@ -1,0 +1,28 @@
+-- Each stop is the reading's, and what is found is what it finds.
+use Rattle.std.proofs.lemmas.Result.{err_from_is_err_and}
+use Rattle.nml_read.proofs.Saying.{both, fails, fails_behind, fails_made, makes}
+use Rattle.nml_read.proofs.item.storage.Goals as goal
+
+pub returns-in_err-size-clause-says : goal.returns-in_err-size-clause-says
+returns-in_err-size-clause-says c =
+    let p = err_from_is_err_and c.from_residual-in_err-size.result c.from_residual-in_err-size.ensures.1 in
+    rw (p.1, p.2) (fails_made _ _ _ _ (fails_behind _ _ _ _ _ _ c.in_ok-name.ensures.says (fails_behind _ _ _ _ _ _ c.in_ok-opening.ensures.says (fails _ _ _ _ c.in_err-size.ensures.says))))
+
+pub returns-in_err-comma-clause-says : goal.returns-in_err-comma-clause-says
+returns-in_err-comma-clause-says c =
+    let p = err_from_is_err_and c.from_residual-in_err-comma.result c.from_residual-in_err-comma.ensures.1 in
+    rw (p.1, p.2) (fails_made _ _ _ _ (fails_behind _ _ _ _ _ _ c.in_ok-name.ensures.says (fails_behind _ _ _ _ _ _ c.in_ok-opening.ensures.says (fails_behind _ _ _ _ _ _ c.in_ok-size.ensures.says (fails _ _ _ _ c.in_err-comma.ensures.says)))))
+
+pub returns-in_err-ty-clause-says : goal.returns-in_err-ty-clause-says
+returns-in_err-ty-clause-says c =
+    let p = err_from_is_err_and c.from_residual-in_err-ty.result c.from_residual-in_err-ty.ensures.1 in
+    rw (p.1, p.2) (fails_made _ _ _ _ (fails_behind _ _ _ _ _ _ c.in_ok-name.ensures.says (fails_behind _ _ _ _ _ _ c.in_ok-opening.ensures.says (fails_behind _ _ _ _ _ _ c.in_ok-size.ensures.says (fails_behind _ _ _ _ _ _ c.in_ok-comma.ensures.says (fails _ _ _ _ c.in_err-ty.ensures.says))))))
+
+pub returns-in_err-closing-clause-says : goal.returns-in_err-closing-clause-says
+returns-in_err-closing-clause-says c =
+    let p = err_from_is_err_and c.from_residual-in_err-closing.result c.from_residual-in_err-closing.ensures.1 in
+    rw (p.1, p.2) (fails_made _ _ _ _ (fails_behind _ _ _ _ _ _ c.in_ok-name.ensures.says (fails_behind _ _ _ _ _ _ c.in_ok-opening.ensures.says (fails_behind _ _ _ _ _ _ c.in_ok-size.ensures.says (fails_behind _ _ _ _ _ _ c.in_ok-comma.ensures.says (fails_behind _ _ _ _ _ _ c.in_ok-ty.ensures.says c.in_err-closing.ensures.says))))))
+
+pub returns-clause-says : goal.returns-clause-says
+returns-clause-says c =
+    makes _ _ _ _ _ (both _ _ _ _ _ _ _ c.in_ok-name.ensures.says (both _ _ _ _ _ _ _ c.in_ok-opening.ensures.says (both _ _ _ _ _ _ _ c.in_ok-size.ensures.says (both _ _ _ _ _ _ _ c.in_ok-comma.ensures.says (both _ _ _ _ _ _ _ c.in_ok-ty.ensures.says c.in_ok-closing.ensures.says)))))

@@ -1,0 +1,13 @@
+-- Each stop is the reading's, and what is found is what it finds.
+use Rattle.std.proofs.lemmas.Result.{err_from_is_err_and}
+use Rattle.nml_read.proofs.Saying.{fails_made, makes}
+use Rattle.nml_read.proofs.rules.or_rule.Goals as goal
+
+pub returns-in_err-first-clause-says : goal.returns-in_err-first-clause-says
+returns-in_err-first-clause-says c =
+    let p = err_from_is_err_and c.from_residual.result c.from_residual.ensures.1 in
+    rw (p.1, p.2) (fails_made _ _ _ _ (c.in_err-first.ensures.says))
+
+pub returns-clause-says : goal.returns-clause-says
+returns-clause-says c =
+    makes _ _ _ _ _ (c.in_ok-first.ensures.says)

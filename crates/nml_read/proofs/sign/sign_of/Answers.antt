@@ -1,0 +1,32 @@
+-- The first byte tells what the token is.
+use Rattle.std.proofs.Common.{◌≡◌, ◌∙◌, sym, ap, ne_eqb, Some, slice_get, take, drop, arith}
+use Rattle.std.specs.Option.{unwrap_or}
+use Rattle.nml_tree.specs.Symbol.{Symbol}
+use Rattle.nml_lex.proofs.Limits.{number_first}
+use Rattle.nml_read.proofs.Signs.{word_is, value_is, number_is, string_is, mark_is}
+use Rattle.nml_read.proofs.sign.sign_of.Goals as goal
+
+pub number_value-requires : goal.number_value-requires
+number_value-requires c = number_first c.args.token.now.text.now c.in-Some.first.now c.in-Some.ensures.value (sym c.is_ascii_digit.ensures.value ∙ c.if-is_ascii_digit.true) c.requires.0
+
+pub returns-then-is_name_start : goal.returns-then-is_name_start
+returns-then-is_name_start c =
+    c.word.ensures ∙ word_is c.args.token.now.at c.args.token.now.text.now c.in-Some.first.now c.in-Some.ensures.value (sym c.is_name_start.ensures ∙ c.if-is_name_start.true) c.requires.0
+
+pub returns-then-is_ascii_digit : goal.returns-then-is_ascii_digit
+returns-then-is_ascii_digit c =
+    let digit = sym c.is_ascii_digit.ensures.value ∙ c.if-is_ascii_digit.true in
+    let value = value_is c.args.token.now.text.now c.in-Some.first.now c.number_value.result c.in-Some.ensures.value digit c.requires.0 c.requires.1 c.number_value.ensures in
+    ap (λ n. Symbol.Number c.args.token.now.at n) (c.unwrap_or.ensures ∙ ap (λ o. unwrap_or o 0) value)
+    ∙ number_is c.args.token.now.at c.args.token.now.text.now c.in-Some.first.now c.in-Some.ensures.value digit c.requires.0
+
+pub returns-then-first-eq34 : goal.returns-then-first-eq34
+returns-then-first-eq34 c =
+    let quote : Some 34 ≡ slice_get c.args.token.now.text.now 0 = sym (ap Some c.if-first-eq34.true) ∙ c.in-Some.ensures.value in
+    ap (λ n. Symbol.Quoted c.args.token.now.at (take n (drop 1 c.args.token.now.text.now))) (omega arith)
+    ∙ string_is c.args.token.now.at c.args.token.now.text.now quote c.requires.0
+
+pub returns-else-first-eq34 : goal.returns-else-first-eq34
+returns-else-first-eq34 c =
+    mark_is c.args.token.now.at c.args.token.now.text.now c.in-Some.first.now c.in-Some.ensures.value (sym c.is_name_start.ensures ∙ c.if-is_name_start.false) (sym c.is_ascii_digit.ensures.value ∙ c.if-is_ascii_digit.false)
+    (ne_eqb c.in-Some.first.now 34 c.if-first-eq34.false)

@@ -1,0 +1,14 @@
+-- Each stop is the reading's, and what is found is what it finds.
+use Rattle.std.proofs.lemmas.Result.{err_from_is_err_and}
+use Rattle.nml_read.proofs.Saying.{fails, fails_behind}
+use Rattle.nml_read.proofs.types.one_size.Goals as goal
+
+pub returns-in_err-size-clause-says : goal.returns-in_err-size-clause-says
+returns-in_err-size-clause-says c =
+    let p = err_from_is_err_and c.from_residual-in_err-size.result c.from_residual-in_err-size.ensures.1 in
+    rw (p.1, p.2) (fails_behind _ _ _ _ _ _ c.in_ok-opening.ensures.says (fails _ _ _ _ c.in_err-size.ensures.says))
+
+pub returns-in_err-closing-clause-says : goal.returns-in_err-closing-clause-says
+returns-in_err-closing-clause-says c =
+    let p = err_from_is_err_and c.from_residual-in_err-closing.result c.from_residual-in_err-closing.ensures.1 in
+    rw (p.1, p.2) (fails_behind _ _ _ _ _ _ c.in_ok-opening.ensures.says (fails_behind _ _ _ _ _ _ c.in_ok-size.ensures.says c.in_err-closing.ensures.says))

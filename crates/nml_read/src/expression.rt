@@ -1,0 +1,303 @@
+//! Expressions, from symbols.
+ghost use Rattle.std.specs.Prelude.{◌≡◌, ◌<◌, ◌≤◌, ◌-◌, length, map, IfOk, codes};
+ghost use Rattle.nml_tree.specs.Formula.{formula};
+ghost use Rattle.nml_tree.specs.Depth.{depth};
+ghost use Rattle.nml_read.specs.Forms.{fit_of, formed, two_sizes};
+ghost use Rattle.nml_read.specs.Reading.{Found, climb, looked_up, beginnings};
+ghost use Rattle.nml_read.specs.Reading as spec;
+ghost use Rattle.nml_read.specs.Seen.{expression_of, seen, Says, Told};
+
+use crate::beginning::{Beginning, Fit, Form, begun_by, fitting, operating, truth};
+use crate::front::{behind, mark, size};
+use crate::operator::{joined, operator};
+use crate::sign::Sign;
+use crate::stop::Stop;
+use nk_base::Text;
+use nml_tree::{Expr, Name, Number, Size};
+use sqlite_items::Boxed;
+use std::alloc::Global;
+
+/// The level of the operators of one operand, above all of two.
+const UNARY_LEVEL: usize = 10;
+
+/// An expression whose outermost level is this one or a stronger one, and which is at most so deep, as long as it goes; and its depth.
+#[cycle(expressions)]
+pub fn expression<'t, 'a>(
+    alloc: Global,
+    level: usize,
+    room: usize,
+    signs: &'t [Sign<'a>],
+) -> Result<(Expr, usize, &'t [Sign<'a>]), Stop>
+    requires { 1 ≤ room }
+    ensures told { Told (λ x. Found (formula x.0) (map seen x.2.now)) result (λ n. climb n level room (map seen signs.now)) }
+    ensures deep { IfOk result (λ x. depth (formula x.0) ≡ x.1) }
+    ensures within { IfOk result (λ x. (1 ≤ x.1) × (x.1 ≤ room)) }
+    ensures shorter { IfOk result (λ x. length x.2.now < length signs.now) }
+{
+    let (mut left, mut deep, mut rest) = operand(alloc, room, signs)?;
+    while let Some(turn) = operator(level, rest) {
+        if room <= deep {
+            return Err(Stop::Stuck(rest.len()));
+        }
+        let (right, below, behind) = part(alloc, turn.level + 1, room, turn.rest)?;
+        let former = Boxed::new(alloc, left)?;
+        left = joined(turn.op, former, turn.at, right);
+        deep = 1 + deep.max(below);
+        rest = behind;
+    }
+    Ok((left, deep, rest))
+}
+
+/// An expression that is at most so deep, as long as it goes.
+pub fn whole<'t, 'a>(
+    alloc: Global,
+    room: usize,
+    signs: &'t [Sign<'a>],
+) -> Result<(Expr, &'t [Sign<'a>]), Stop>
+    requires some { 1 ≤ room }
+    requires few { room ≤ 200 }
+    ensures says { Says (λ x. Found (formula x.0) (map seen x.1.now)) result (expression_of room) (map seen signs.now) }
+    ensures shorter { IfOk result (λ x. length x.1.now < length signs.now) }
+{
+    let (found, _, rest) = expression(alloc, 0, room, signs)?;
+    Ok((found, rest))
+}
+
+/// An expression within one that is at most so deep, and its own depth.
+#[cycle(expressions)]
+fn part<'t, 'a>(
+    alloc: Global,
+    level: usize,
+    room: usize,
+    signs: &'t [Sign<'a>],
+) -> Result<(Boxed<Expr>, usize, &'t [Sign<'a>]), Stop>
+    requires { 2 ≤ room }
+    ensures told { Told (λ x. Found (formula x.0) (map seen x.2.now)) result (λ n. climb n level (room - 1) (map seen signs.now)) }
+    ensures deep { IfOk result (λ x. depth (formula x.0) ≡ x.1) }
+    ensures within { IfOk result (λ x. (1 ≤ x.1) × (x.1 < room)) }
+    ensures shorter { IfOk result (λ x. length x.2.now < length signs.now) }
+{
+    let (inner, deep, rest) = expression(alloc, level, room - 1, signs)?;
+    Ok((Boxed::new(alloc, inner)?, deep, rest))
+}
+
+/// An expression without an operator of two operands outermost, and its depth.
+#[cycle(expressions)]
+fn operand<'t, 'a>(
+    alloc: Global,
+    room: usize,
+    signs: &'t [Sign<'a>],
+) -> Result<(Expr, usize, &'t [Sign<'a>]), Stop>
+    requires { 1 ≤ room }
+    ensures told { Told (λ x. Found (formula x.0) (map seen x.2.now)) result (λ n. spec.operand (climb n) room (map seen signs.now)) }
+    ensures deep { IfOk result (λ x. depth (formula x.0) ≡ x.1) }
+    ensures within { IfOk result (λ x. (1 ≤ x.1) × (x.1 ≤ room)) }
+    ensures shorter { IfOk result (λ x. length x.2.now < length signs.now) }
+{
+    let Some((first, rest)) = signs.split_first() else {
+        return Err(Stop::Stuck(signs.len()));
+    };
+    match *first {
+        Sign::Fixed(at, text) => begun(alloc, room, at, text, signs, rest),
+        Sign::Named(at, text) => {
+            let text = Text::from_bytes(alloc, text)?;
+            indexed(alloc, room, Name { at, text }, rest)
+        }
+        Sign::Number(at, value) => Ok((Expr::Number(Number { at, value }), 1, rest)),
+        Sign::Quoted(_, _) => Err(Stop::Stuck(signs.len())),
+    }
+}
+
+/// What begins with this keyword or mark, behind which the rest stands, and its depth; here are the symbols from it on.
+#[cycle(expressions)]
+fn begun<'t, 'a>(
+    alloc: Global,
+    room: usize,
+    at: u32,
+    text: &[u8],
+    here: &'t [Sign<'a>],
+    rest: &'t [Sign<'a>],
+) -> Result<(Expr, usize, &'t [Sign<'a>]), Stop>
+    requires { 1 ≤ room }
+    ensures told { Told (λ x. Found (formula x.0) (map seen x.2.now)) result
+        (λ n. spec.begun (climb n) room (map seen here.now) at (map seen rest.now) (looked_up beginnings text.now)) }
+    ensures deep { IfOk result (λ x. depth (formula x.0) ≡ x.1) }
+    ensures within { IfOk result (λ x. (1 ≤ x.1) × (x.1 ≤ room)) }
+    ensures shorter { IfOk result (λ x. length x.2.now ≤ length rest.now) }
+{
+    match begun_by(text) {
+        None => Err(Stop::Stuck(here.len())),
+        Some(Beginning::Value(value)) => Ok((truth(at, value), 1, rest)),
+        Some(Beginning::Node(form)) => {
+            if room <= 1 {
+                Err(Stop::Stuck(here.len()))
+            } else {
+                node(alloc, room, form, at, rest)
+            }
+        }
+    }
+}
+
+/// An expression that has others within it, behind its first symbol, and its depth.
+#[cycle(expressions)]
+fn node<'t, 'a>(
+    alloc: Global,
+    room: usize,
+    form: Form,
+    at: u32,
+    signs: &'t [Sign<'a>],
+) -> Result<(Expr, usize, &'t [Sign<'a>]), Stop>
+    requires { 2 ≤ room }
+    ensures told { Told (λ x. Found (formula x.0) (map seen x.2.now)) result (λ n. formed (climb n) room form at (map seen signs.now)) }
+    ensures deep { IfOk result (λ x. depth (formula x.0) ≡ x.1) }
+    ensures within { IfOk result (λ x. (1 ≤ x.1) × (x.1 ≤ room)) }
+    ensures shorter { IfOk result (λ x. length x.2.now < length signs.now) }
+{
+    match form {
+        Form::Paren => paren(alloc, room, at, signs),
+        Form::Fitted(fit) => fitted(alloc, room, fit, at, signs),
+        Form::Slice => slice(alloc, room, at, signs),
+        Form::Choice => choice(alloc, room, at, signs),
+        Form::Operation(op) => {
+            let (inner, deep, rest) = part(alloc, UNARY_LEVEL, room, signs)?;
+            Ok((operating(op, at, inner), 1 + deep, rest))
+        }
+    }
+}
+
+/// A name that was read, with its index where one stands behind it, and its depth.
+#[cycle(expressions)]
+fn indexed<'t, 'a>(
+    alloc: Global,
+    room: usize,
+    name: Name,
+    signs: &'t [Sign<'a>],
+) -> Result<(Expr, usize, &'t [Sign<'a>]), Stop>
+    requires { 1 ≤ room }
+    ensures told { Told (λ x. Found (formula x.0) (map seen x.2.now)) result
+        (λ n. spec.index (climb n) room name (map seen signs.now) (spec.behind (codes "[") (map seen signs.now))) }
+    ensures deep { IfOk result (λ x. depth (formula x.0) ≡ x.1) }
+    ensures within { IfOk result (λ x. (1 ≤ x.1) × (x.1 ≤ room)) }
+    ensures shorter { IfOk result (λ x. length x.2.now ≤ length signs.now) }
+{
+    let Some((opening, rest)) = behind(b"[", signs) else {
+        return Ok((Expr::Name(name, None), 1, signs));
+    };
+    if room <= 1 {
+        return Err(Stop::Stuck(signs.len()));
+    }
+    let (index, deep, rest) = part(alloc, 0, room, rest)?;
+    let (closing, rest) = mark(b"]", rest)?;
+    Ok((
+        Expr::Name(name, Some((opening, index, closing))),
+        1 + deep,
+        rest,
+    ))
+}
+
+/// `( e )`, behind its first symbol, and its depth.
+#[cycle(expressions)]
+fn paren<'t, 'a>(
+    alloc: Global,
+    room: usize,
+    at: u32,
+    signs: &'t [Sign<'a>],
+) -> Result<(Expr, usize, &'t [Sign<'a>]), Stop>
+    requires { 2 ≤ room }
+    ensures told { Told (λ x. Found (formula x.0) (map seen x.2.now)) result (λ n. spec.paren (climb n) room at (map seen signs.now)) }
+    ensures deep { IfOk result (λ x. depth (formula x.0) ≡ x.1) }
+    ensures within { IfOk result (λ x. (1 ≤ x.1) × (x.1 ≤ room)) }
+    ensures shorter { IfOk result (λ x. length x.2.now < length signs.now) }
+{
+    let (inner, deep, rest) = part(alloc, 0, room, signs)?;
+    let (closing, rest) = mark(b")", rest)?;
+    Ok((Expr::Paren(at, inner, closing), 1 + deep, rest))
+}
+
+/// `int ( size , e )` and the like, behind its first symbol, and its depth.
+#[cycle(expressions)]
+fn fitted<'t, 'a>(
+    alloc: Global,
+    room: usize,
+    fit: Fit,
+    at: u32,
+    signs: &'t [Sign<'a>],
+) -> Result<(Expr, usize, &'t [Sign<'a>]), Stop>
+    requires { 2 ≤ room }
+    ensures told { Told (λ x. Found (formula x.0) (map seen x.2.now)) result (λ n. spec.fitted (climb n) room (fit_of fit) at (map seen signs.now)) }
+    ensures deep { IfOk result (λ x. depth (formula x.0) ≡ x.1) }
+    ensures within { IfOk result (λ x. (1 ≤ x.1) × (x.1 ≤ room)) }
+    ensures shorter { IfOk result (λ x. length x.2.now < length signs.now) }
+{
+    let (opening, rest) = mark(b"(", signs)?;
+    let (size, rest) = size(alloc, rest)?;
+    let (comma, rest) = mark(b",", rest)?;
+    let (inner, deep, rest) = part(alloc, 0, room, rest)?;
+    let (closing, rest) = mark(b")", rest)?;
+    Ok((
+        fitting(fit, at, opening, size, comma, inner, closing),
+        1 + deep,
+        rest,
+    ))
+}
+
+/// `bits ( e , size , size )`, behind its first symbol, and its depth.
+#[cycle(expressions)]
+fn slice<'t, 'a>(
+    alloc: Global,
+    room: usize,
+    at: u32,
+    signs: &'t [Sign<'a>],
+) -> Result<(Expr, usize, &'t [Sign<'a>]), Stop>
+    requires { 2 ≤ room }
+    ensures told { Told (λ x. Found (formula x.0) (map seen x.2.now)) result (λ n. spec.slice (climb n) room at (map seen signs.now)) }
+    ensures deep { IfOk result (λ x. depth (formula x.0) ≡ x.1) }
+    ensures within { IfOk result (λ x. (1 ≤ x.1) × (x.1 ≤ room)) }
+    ensures shorter { IfOk result (λ x. length x.2.now < length signs.now) }
+{
+    let (opening, rest) = mark(b"(", signs)?;
+    let (inner, deep, rest) = part(alloc, 0, room, rest)?;
+    let (comma, rest) = mark(b",", rest)?;
+    let (high, second_comma, low, closing, rest) = two_sizes(alloc, rest)?;
+    let bits = Expr::Bits(at, opening, inner, comma, high, second_comma, low, closing);
+    Ok((bits, 1 + deep, rest))
+}
+
+/// `if e then e else e endif`, behind its first symbol, and its depth.
+#[cycle(expressions)]
+fn choice<'t, 'a>(
+    alloc: Global,
+    room: usize,
+    at: u32,
+    signs: &'t [Sign<'a>],
+) -> Result<(Expr, usize, &'t [Sign<'a>]), Stop>
+    requires { 2 ≤ room }
+    ensures told { Told (λ x. Found (formula x.0) (map seen x.2.now)) result (λ n. spec.choice (climb n) room at (map seen signs.now)) }
+    ensures deep { IfOk result (λ x. depth (formula x.0) ≡ x.1) }
+    ensures within { IfOk result (λ x. (1 ≤ x.1) × (x.1 ≤ room)) }
+    ensures shorter { IfOk result (λ x. length x.2.now < length signs.now) }
+{
+    let (condition, first, rest) = part(alloc, 0, room, signs)?;
+    let (then_at, rest) = mark(b"then", rest)?;
+    let (chosen, second, rest) = part(alloc, 0, room, rest)?;
+    let (else_at, rest) = mark(b"else", rest)?;
+    let (other, third, rest) = part(alloc, 0, room, rest)?;
+    let (end_at, rest) = mark(b"endif", rest)?;
+    let whole = Expr::If(at, condition, then_at, chosen, else_at, other, end_at);
+    Ok((whole, 1 + first.max(second.max(third)), rest))
+}
+
+/// `size , size )`: the highest bit of a slice, the comma, the lowest bit and the closing parenthesis.
+fn two_sizes<'t, 'a>(
+    alloc: Global,
+    signs: &'t [Sign<'a>],
+) -> Result<(Size, u32, Size, u32, &'t [Sign<'a>]), Stop>
+    ensures told { Told (λ x. Found (x.0, x.1, x.2, x.3) (map seen x.4.now)) result (λ n. two_sizes (map seen signs.now)) }
+    ensures shorter { IfOk result (λ x. length x.4.now < length signs.now) }
+{
+    let (high, rest) = size(alloc, signs)?;
+    let (comma, rest) = mark(b",", rest)?;
+    let (low, rest) = size(alloc, rest)?;
+    let (closing, rest) = mark(b")", rest)?;
+    Ok((high, comma, low, closing, rest))
+}
