@@ -102,6 +102,17 @@ const SOURCE: &str = "ldi 5\nouta\nhlt 0\n";
 /// What stands behind the digest in its image: how many words, the words, and no data cells.
 const WORDS: &[u8] = b"\0\0\0\x03\x01\x05\x02\0\0\0\0\0\0\0";
 
+/// The same for a text without instructions.
+const NO_WORDS: &[u8] = b"\0\0\0\0\0\0\0\0";
+
+/// As many instructions as `PC` has numbers.
+const SIXTEEN: &str =
+    "outa\nouta\nouta\nouta\nouta\nouta\nouta\nouta\nouta\nouta\nouta\nouta\nouta\nouta\nouta\nouta\n";
+
+/// One more.
+const SEVENTEEN: &str =
+    "outa\nouta\nouta\nouta\nouta\nouta\nouta\nouta\nouta\nouta\nouta\nouta\nouta\nouta\nouta\nouta\nouta\n";
+
 const USAGE: &str =
     "usage: check D, asm D S I, dis D I, run D I X n, cc D C I, ceval D C X n, demo k\n";
 
@@ -176,74 +187,64 @@ fn digest_is_the_known_one(rt: HostRuntime) -> Result<(), Fail> {
     Ok(())
 }
 
+/// A description, a text, what `asm` ends with and tells, and what stands behind the digest in the image, where one is written.
+const ASSEMBLED: [(&str, &str, Status, &str, Option<&[u8]>); 13] = [
+    (
+        M0,
+        SOURCE,
+        Status::Done,
+        "105\n200\n000\nok: 3 words\n",
+        None,
+    ),
+    (
+        M0,
+        "ldi -1\nldi -128",
+        Status::Done,
+        "1ff\n180\nok: 2 words\n",
+        None,
+    ),
+    (
+        M0,
+        "\n ldi\t 005\r\n\n",
+        Status::Done,
+        "105\nok: 1 words\n",
+        None,
+    ),
+    (M0, "", Status::Done, "ok: 0 words\n", None),
+    (
+        M0,
+        "outa\n\nhlt 4",
+        Status::Source,
+        "s: S3 NoMatch 3\n",
+        None,
+    ),
+    (M0, "outa 1", Status::Source, "s: S3 NoMatch 1\n", None),
+    (M0, "ldi \"5\"", Status::NotBuilt, "s: not built\n", None),
+    (M0, "ldi - 5", Status::NotBuilt, "s: not built\n", None),
+    (
+        M1,
+        SOURCE,
+        Status::Done,
+        "105\n200\n000\nok: 3 words\n",
+        Some(WORDS),
+    ),
+    (M1, "", Status::Done, "ok: 0 words\n", Some(NO_WORDS)),
+    (
+        NUMBERED,
+        SOURCE,
+        Status::Done,
+        "105\n200\n000\nok: 3 words\n",
+        Some(WORDS),
+    ),
+    (M1, "ldi 128", Status::Source, "s: S3 NoMatch 1\n", None),
+    (M1, SEVENTEEN, Status::NotBuilt, "s: not built\n", None),
+];
+
 /// Rows without an image write no file.
 #[test]
 fn assembles_texts(rt: HostRuntime) -> Result<(), Fail> {
     let alloc = rt.alloc();
-    let seventeen = "outa\n".repeat(alloc, 17)?;
-    for (machine, source, status, text, image) in [
-        (
-            M0,
-            SOURCE,
-            Status::Done,
-            "105\n200\n000\nok: 3 words\n",
-            None,
-        ),
-        (
-            M0,
-            "ldi -1\nldi -128",
-            Status::Done,
-            "1ff\n180\nok: 2 words\n",
-            None,
-        ),
-        (
-            M0,
-            "\n ldi\t 005\r\n\n",
-            Status::Done,
-            "105\nok: 1 words\n",
-            None,
-        ),
-        (M0, "", Status::Done, "ok: 0 words\n", None),
-        (
-            M0,
-            "outa\n\nhlt 4",
-            Status::Source,
-            "s: S3 NoMatch 3\n",
-            None,
-        ),
-        (M0, "outa 1", Status::Source, "s: S3 NoMatch 1\n", None),
-        (M0, "ldi \"5\"", Status::NotBuilt, "s: not built\n", None),
-        (M0, "ldi - 5", Status::NotBuilt, "s: not built\n", None),
-        (
-            M1,
-            SOURCE,
-            Status::Done,
-            "105\n200\n000\nok: 3 words\n",
-            Some(WORDS),
-        ),
-        (
-            M1,
-            "",
-            Status::Done,
-            "ok: 0 words\n",
-            Some(b"\0\0\0\0\0\0\0\0".as_slice()),
-        ),
-        (
-            NUMBERED,
-            SOURCE,
-            Status::Done,
-            "105\n200\n000\nok: 3 words\n",
-            Some(WORDS),
-        ),
-        (M1, "ldi 128", Status::Source, "s: S3 NoMatch 1\n", None),
-        (
-            M1,
-            seventeen.as_str(),
-            Status::NotBuilt,
-            "s: not built\n",
-            None,
-        ),
-    ] {
+    for (machine, source, status, text, image) in ASSEMBLED {
         let mut files = files_of(
             alloc,
             &[("d", machine.as_bytes()), ("s", source.as_bytes())],
@@ -297,52 +298,54 @@ fn images_replace_files(rt: HostRuntime) -> Result<(), Fail> {
     Ok(())
 }
 
+/// A description, a text, a run of its image, and what that ends with and tells.
+const RUNS: [(&str, &str, &str, Status, &str); 9] = [
+    (M1, SOURCE, "run d i x 10", Status::Done, "5\nhalted 0\n"),
+    (
+        NUMBERED,
+        SOURCE,
+        "run d i x 10",
+        Status::Done,
+        "5\nhalted 0\n",
+    ),
+    (
+        M1,
+        "outa\nhlt 0",
+        "run d i x 1",
+        Status::Budget,
+        "0\nrunning\n",
+    ),
+    (
+        M1,
+        "outa\nhlt 0",
+        "run d i x 2",
+        Status::Done,
+        "0\nhalted 0\n",
+    ),
+    (M1, "hlt 3", "run d i x 1", Status::Stopped, "halted 3\n"),
+    (M1, "", "run d i x 1", Status::NoWord, "no word 0\n"),
+    (M1, "outa", "run d i x 5", Status::NoWord, "0\nno word 1\n"),
+    // PC has 4 bits, and goes on at 0
+    (
+        M1,
+        SIXTEEN,
+        "run d i x 17",
+        Status::Budget,
+        "0\n0\n0\n0\n0\n0\n0\n0\n0\n0\n0\n0\n0\n0\n0\n0\n0\nrunning\n",
+    ),
+    (
+        SWAP,
+        "lda 7\nldb -9\nswap\nouta\noutb\nhlt 0",
+        "run d i x 6",
+        Status::Done,
+        "-9\n7\nhalted 0\n",
+    ),
+];
+
 #[test]
 fn runs_what_it_assembles(rt: HostRuntime) -> Result<(), Fail> {
     let alloc = rt.alloc();
-    let sixteen = "outa\n".repeat(alloc, 16)?;
-    for (machine, source, line, status, text) in [
-        (M1, SOURCE, "run d i x 10", Status::Done, "5\nhalted 0\n"),
-        (
-            NUMBERED,
-            SOURCE,
-            "run d i x 10",
-            Status::Done,
-            "5\nhalted 0\n",
-        ),
-        (
-            M1,
-            "outa\nhlt 0",
-            "run d i x 1",
-            Status::Budget,
-            "0\nrunning\n",
-        ),
-        (
-            M1,
-            "outa\nhlt 0",
-            "run d i x 2",
-            Status::Done,
-            "0\nhalted 0\n",
-        ),
-        (M1, "hlt 3", "run d i x 1", Status::Stopped, "halted 3\n"),
-        (M1, "", "run d i x 1", Status::NoWord, "no word 0\n"),
-        (M1, "outa", "run d i x 5", Status::NoWord, "0\nno word 1\n"),
-        // PC has 4 bits, and goes on at 0
-        (
-            M1,
-            sixteen.as_str(),
-            "run d i x 17",
-            Status::Budget,
-            "0\n0\n0\n0\n0\n0\n0\n0\n0\n0\n0\n0\n0\n0\n0\n0\n0\nrunning\n",
-        ),
-        (
-            SWAP,
-            "lda 7\nldb -9\nswap\nouta\noutb\nhlt 0",
-            "run d i x 6",
-            Status::Done,
-            "-9\n7\nhalted 0\n",
-        ),
-    ] {
+    for (machine, source, line, status, text) in RUNS {
         let mut files = files_of(
             alloc,
             &[
@@ -361,6 +364,93 @@ fn runs_what_it_assembles(rt: HostRuntime) -> Result<(), Fail> {
     }
     Ok(())
 }
+
+/// A call, what it ends with and tells, and how many calls of files it takes.
+const FILES_TOLD: [(&str, Status, &str, u64); 28] = [
+    ("asm absent s i", Status::Read, "absent: absent\n", 1),
+    ("asm m1 absent i", Status::Read, "absent: absent\n", 2),
+    ("asm long s i", Status::TooLong, "long: too long\n", 1),
+    ("asm m1 long i", Status::TooLong, "long: too long\n", 2),
+    ("asm s s i", Status::Description, "s: N2 Syntax 0\n", 1),
+    (
+        "asm broken s i",
+        Status::Description,
+        "broken: N1 Lex 4\n",
+        1,
+    ),
+    (
+        "asm wrong_token s i",
+        Status::Description,
+        "wrong_token: N2 Syntax 7\n",
+        1,
+    ),
+    (
+        "asm too_short s i",
+        Status::Description,
+        "too_short: N2 Syntax 16\n",
+        1,
+    ),
+    (
+        "asm float s i",
+        Status::Description,
+        "float: N3 Float 9\n",
+        1,
+    ),
+    (
+        "asm no_rule s i",
+        Status::NotBuilt,
+        "no_rule: not built\n",
+        1,
+    ),
+    ("asm action s i", Status::NotBuilt, "action: not built\n", 1),
+    ("run absent image x 5", Status::Read, "absent: absent\n", 1),
+    ("run m1 absent x 5", Status::Read, "absent: absent\n", 2),
+    ("run m1 image absent 5", Status::Read, "absent: absent\n", 3),
+    ("run long image x 5", Status::TooLong, "long: too long\n", 1),
+    ("run m1 long x 5", Status::TooLong, "long: too long\n", 2),
+    (
+        "run m1 image long 5",
+        Status::TooLong,
+        "long: too long\n",
+        3,
+    ),
+    ("run m0 image x 5", Status::NotBuilt, "m0: not built\n", 1),
+    (
+        "run comment image x 5",
+        Status::Description,
+        "comment: N1 Lex 4\n",
+        1,
+    ),
+    (
+        "run wrong_token image x 5",
+        Status::Description,
+        "wrong_token: N2 Syntax 7\n",
+        1,
+    ),
+    (
+        "run float image x 5",
+        Status::Description,
+        "float: N3 Float 9\n",
+        1,
+    ),
+    ("run m1 cut x 5", Status::NotBuilt, "cut: not built\n", 2),
+    (
+        "run m1 longer x 5",
+        Status::NotBuilt,
+        "longer: not built\n",
+        2,
+    ),
+    (
+        "run spaced image x 5",
+        Status::NotBuilt,
+        "image: not built\n",
+        2,
+    ),
+    ("run m1 wrong x 5", Status::BadWord, "bad word 0\n", 3),
+    ("run m1 image one 5", Status::Input, "one: Input 1\n", 3),
+    ("run m1 image seven 5", Status::Input, "seven: Input 3\n", 3),
+    ("run m1 image blank 5", Status::Done, "5\nhalted 0\n", 3),
+];
 
 /// What is told of each file, and how many calls it takes; none is written.
 #[test]
@@ -394,91 +484,7 @@ fn tells_files_apart(rt: HostRuntime) -> Result<(), Fail> {
         ("seven", b" \t\r\n\n7".as_slice()),
         ("long", long.as_slice()),
     ];
-    for (line, status, text, calls) in [
-        ("asm absent s i", Status::Read, "absent: absent\n", 1),
-        ("asm m1 absent i", Status::Read, "absent: absent\n", 2),
-        ("asm long s i", Status::TooLong, "long: too long\n", 1),
-        ("asm m1 long i", Status::TooLong, "long: too long\n", 2),
-        ("asm s s i", Status::Description, "s: N2 Syntax 0\n", 1),
-        (
-            "asm broken s i",
-            Status::Description,
-            "broken: N1 Lex 4\n",
-            1,
-        ),
-        (
-            "asm wrong_token s i",
-            Status::Description,
-            "wrong_token: N2 Syntax 7\n",
-            1,
-        ),
-        (
-            "asm too_short s i",
-            Status::Description,
-            "too_short: N2 Syntax 16\n",
-            1,
-        ),
-        (
-            "asm float s i",
-            Status::Description,
-            "float: N3 Float 9\n",
-            1,
-        ),
-        (
-            "asm no_rule s i",
-            Status::NotBuilt,
-            "no_rule: not built\n",
-            1,
-        ),
-        ("asm action s i", Status::NotBuilt, "action: not built\n", 1),
-        ("run absent image x 5", Status::Read, "absent: absent\n", 1),
-        ("run m1 absent x 5", Status::Read, "absent: absent\n", 2),
-        ("run m1 image absent 5", Status::Read, "absent: absent\n", 3),
-        ("run long image x 5", Status::TooLong, "long: too long\n", 1),
-        ("run m1 long x 5", Status::TooLong, "long: too long\n", 2),
-        (
-            "run m1 image long 5",
-            Status::TooLong,
-            "long: too long\n",
-            3,
-        ),
-        ("run m0 image x 5", Status::NotBuilt, "m0: not built\n", 1),
-        (
-            "run comment image x 5",
-            Status::Description,
-            "comment: N1 Lex 4\n",
-            1,
-        ),
-        (
-            "run wrong_token image x 5",
-            Status::Description,
-            "wrong_token: N2 Syntax 7\n",
-            1,
-        ),
-        (
-            "run float image x 5",
-            Status::Description,
-            "float: N3 Float 9\n",
-            1,
-        ),
-        ("run m1 cut x 5", Status::NotBuilt, "cut: not built\n", 2),
-        (
-            "run m1 longer x 5",
-            Status::NotBuilt,
-            "longer: not built\n",
-            2,
-        ),
-        (
-            "run spaced image x 5",
-            Status::NotBuilt,
-            "image: not built\n",
-            2,
-        ),
-        ("run m1 wrong x 5", Status::BadWord, "bad word 0\n", 3),
-        ("run m1 image one 5", Status::Input, "one: Input 1\n", 3),
-        ("run m1 image seven 5", Status::Input, "seven: Input 3\n", 3),
-        ("run m1 image blank 5", Status::Done, "5\nhalted 0\n", 3),
-    ] {
+    for (line, status, text, calls) in FILES_TOLD {
         let mut files = files_of(alloc, &contents, &[])?;
         let (answer, told) = call(alloc, line, &mut files, 0)?;
         assert_eq!(rt; answer, status, "{line}");
@@ -516,6 +522,61 @@ fn tells_words_apart(rt: HostRuntime) -> Result<(), Fail> {
     Ok(())
 }
 
+/// A call, which call of files and which put fail, what it ends with and tells, and whether it writes.
+const FAULTS: [(&str, u64, u64, Status, &str, bool); 16] = [
+    ("asm m1 s i", 1, 0, Status::Read, "m1: read failed\n", false),
+    ("asm m1 s i", 2, 0, Status::Read, "s: read failed\n", false),
+    (
+        "asm m1 s i",
+        3,
+        0,
+        Status::Write,
+        "i: write failed\n",
+        false,
+    ),
+    (
+        "asm m1 s x",
+        3,
+        0,
+        Status::Write,
+        "x: write failed\n",
+        false,
+    ),
+    ("asm m1 s i", 0, 1, Status::Write, "", true),
+    ("asm m1 s i", 0, 2, Status::Write, "105\n", true),
+    ("asm m1 s i", 0, 3, Status::Write, "105\n200\n", true),
+    ("asm m1 s i", 0, 4, Status::Write, "105\n200\n000\n", true),
+    ("asm m1 s i", 1, 1, Status::Write, "", false),
+    ("asm m1 s i", 3, 1, Status::Write, "", false),
+    (
+        "run m1 image x 9",
+        1,
+        0,
+        Status::Read,
+        "m1: read failed\n",
+        false,
+    ),
+    (
+        "run m1 image x 9",
+        2,
+        0,
+        Status::Read,
+        "image: read failed\n",
+        false,
+    ),
+    (
+        "run m1 image x 9",
+        3,
+        0,
+        Status::Read,
+        "x: read failed\n",
+        false,
+    ),
+    ("run m1 image x 9", 0, 1, Status::Write, "", false),
+    ("run m1 image x 9", 0, 2, Status::Write, "5\n", false),
+    ("run m1 image x 9", 3, 1, Status::Write, "", false),
+];
+
 /// Each read, the write and each put failing in turn; the files that were there stay as they were.
 #[test]
 fn tells_faults(rt: HostRuntime) -> Result<(), Fail> {
@@ -527,59 +588,7 @@ fn tells_faults(rt: HostRuntime) -> Result<(), Fail> {
         ("image", image.as_slice()),
         ("x", b"".as_slice()),
     ];
-    for (line, file, put, status, text, writes) in [
-        ("asm m1 s i", 1, 0, Status::Read, "m1: read failed\n", false),
-        ("asm m1 s i", 2, 0, Status::Read, "s: read failed\n", false),
-        (
-            "asm m1 s i",
-            3,
-            0,
-            Status::Write,
-            "i: write failed\n",
-            false,
-        ),
-        (
-            "asm m1 s x",
-            3,
-            0,
-            Status::Write,
-            "x: write failed\n",
-            false,
-        ),
-        ("asm m1 s i", 0, 1, Status::Write, "", true),
-        ("asm m1 s i", 0, 2, Status::Write, "105\n", true),
-        ("asm m1 s i", 0, 3, Status::Write, "105\n200\n", true),
-        ("asm m1 s i", 0, 4, Status::Write, "105\n200\n000\n", true),
-        ("asm m1 s i", 1, 1, Status::Write, "", false),
-        ("asm m1 s i", 3, 1, Status::Write, "", false),
-        (
-            "run m1 image x 9",
-            1,
-            0,
-            Status::Read,
-            "m1: read failed\n",
-            false,
-        ),
-        (
-            "run m1 image x 9",
-            2,
-            0,
-            Status::Read,
-            "image: read failed\n",
-            false,
-        ),
-        (
-            "run m1 image x 9",
-            3,
-            0,
-            Status::Read,
-            "x: read failed\n",
-            false,
-        ),
-        ("run m1 image x 9", 0, 1, Status::Write, "", false),
-        ("run m1 image x 9", 0, 2, Status::Write, "5\n", false),
-        ("run m1 image x 9", 3, 1, Status::Write, "", false),
-    ] {
+    for (line, file, put, status, text, writes) in FAULTS {
         let mut files = files_of(alloc, &contents, &[file])?;
         let (answer, told) = call(alloc, line, &mut files, put)?;
         assert_eq!(rt; answer, status, "{line} {file} {put}");
