@@ -1,177 +1,128 @@
 -- The answer of a whole command, from what its steps come to.
-use Rattle.std.proofs.Common.{◌≡◌, inl, inr, ℕ, ◌<◌, length, List, Option, Some, None, Ok, Err, refl, ap, ◌∙◌, subst, arith}
-use Rattle.nk_outside.specs.Count.{Counts}
-use Rattle.nk_outside.specs.Held.{Names, SameElsewhere}
+use Rattle.std.proofs.Common.{◌≡◌, inl, inr, ℕ, ◌<◌, [], ◌∷◌, length, List, Option, Some, None, Ok, Err, refl, sym, subst, arith}
 use Rattle.std.specs.Prelude.{IsTrue, nat_lt}
 use Rattle.std.proofs.lemmas.Bool.Decides.{nat_tests}
 use Rattle.std.proofs.lemmas.List.{length-map}
+use Rattle.std.specs.Global.{Vec}
 use Rattle.nml_tree.specs.Description.{description_of, field_of}
 use Rattle.nml_tree.specs.IsPlain.{IsPlain}
-use Rattle.nml_suite.specs.Answer.{Answers, Filed, Kept, Failed, Starved, IsSaved, KeepsFiles, moment, store}
-use Rattle.nml_suite.specs.Coming.{Opened, Described, Loaded, Ran}
+use Rattle.nml_suite.specs.Answer.{Answers, Moment, IsNamed}
 use Rattle.nml_suite.specs.Cause.{IsOther}
-use Rattle.nml_suite.specs.Form.{Form, Check, Asm, Dis, Run, Cc, Ceval, Demo}
-use Rattle.nml_suite.specs.Outcome.{Outcome, Work, Written, outcome, telling, not_built, told_run, usage_line}
-use Rattle.nml_suite.specs.Reading.{Reading, Got, Unread, HasReading, LeavesFiles}
-use Rattle.nml_suite.specs.Reading as readings
-use Rattle.nml_suite.specs.Refused.{refused, AsmSettles, IsStored, LeavesReads, RunRefused, IsReady}
+use Rattle.nml_suite.specs.Coming.{ComesTo}
+use Rattle.nml_suite.specs.Form.{Form, Check, Asm, Dis, Run, Cc, Ceval, Demo, named_to_read, named_to_write}
+use Rattle.nml_suite.specs.Reading.{Store}
+use Rattle.nml_suite.specs.Refusing.{refused, settled, file_named, Settles, IsStored, IsReady}
+use Rattle.nml_suite.specs.Reply.{Reply, reply, not_built, told_run, usage_line}
 use Rattle.nml_suite.specs.Running.{TellsRun, opened}
 use Rattle.nml_suite.specs.Told.{Told}
+use Rattle.nml_suite.specs.Work.{Work, Written, telling, IsSaved, Filed, Kept, Failed, Starved}
 use Rattle.nml_suite.specs.declared.ready.Ready.{Ready}
 use Rattle.nml_suite.specs.declared.refusal.Refusal.{Refusal}
 use Rattle.nml_suite.specs.declared.status.Status.{Status}
 use Rattle.nml_suite.specs.declared.status.Status.TheVariants as statuses
+use Rattle.nml_suite.proofs.Arriving.{arrived, here}
+
+abbrev at : Store → Option (List ℕ) → ℕ → Moment
+at s taken faults = record { store = s; taken = taken; faults = faults }
+
+-- ---- what is told without a file
+
+pub told_alone : (b n : Store) (t u : Option (List ℕ)) (f g : ℕ) (form : Option Form) (o : Reply) (status : Status) → Settles b n (named_to_read form) (ComesTo form) (telling o)
+    → Told o t u f g status → Answers (at b t f) (at n u g) form status
+told_alone b n t u f g form o status s told = record {
+  asked = s.asked;
+  read = n;
+  reads = s.reads;
+  named = s.named;
+  work = telling o;
+  comes = s.is;
+  writes = tt;
+  told = o;
+  filed = Kept refl refl;
+  puts = told;
+}
 
 -- ---- the file
 
--- no write came
-kept : (h k : Option Names) (b n : Counts) (c : ℕ) (o : Outcome) → LeavesFiles h k b n c → Filed (store h b) (store k n) (telling o) o
-kept h k b n c o l = Kept (record { held = l.same; faults = l.writes }) refl
+saved : (m n : Store) (f : Option Written) → IsStored m n f (Ok tt) → IsSaved m n f
+saved m n None e = e
+saved m n (Some f) w = w
 
-saved : (h k q : Option Names) (b m n : Counts) (c : ℕ) (f : Option Written) → LeavesFiles h k b m c → IsStored (store k m) (store q n) f (Ok tt) → IsSaved (store h b) (store q n) f
-saved h k q b m n c None l e = record { held = ap (λ s. s.held) e ∙ l.same; faults = ap (λ s. s.counts.write_faults) e ∙ l.writes }
-saved h k q b m n c (Some f) l w = record { holds = w.holds; others = subst (λ x. SameElsewhere f.name x q) l.same w.others; later = omega (arith, w.later, l.writes) }
-
-unsaved : (h k q : Option Names) (b m n : Counts) (c : ℕ) (w : Work) (f : Option Written) (e : Refusal) → w.file ≡ f → LeavesFiles h k b m c → IsStored (store k m) (store q n) f (Err e)
-    → Filed (store h b) (store q n) w (refused e)
-unsaved h k q b m n c w None e is l x = absurd x
-unsaved h k q b m n c w (Some f) e is l (inl x) = Failed f is (subst (λ y. SameElsewhere f.name y q) l.same x.1) (omega (arith, x.2, l.writes)) x.0
-unsaved h k q b m n c w (Some f) e is l (inr x) = Starved f is (x.1 ∙ l.same) (omega (arith, x.2, l.writes)) x.0
-
--- a cause stays where the counts of reads do
-stays : (h : Option Names) (b m n : Counts) (f : Option Written) (name : List ℕ) (r : Reading) → LeavesReads m n f → HasReading h b m name r → HasReading h b n name r
-stays h b m n f name (Got bytes) l x = x
-stays h b m n f name readings.Absent l x = (x.0, omega (arith, x.1, l.absents))
-stays h b m n f name readings.Failed l x = omega (arith, x, l.reads)
-stays h b m n f name readings.TooLong l x = x
-stays h b m n f name Unread l x = tt
-
--- ---- `asm`
-
--- a refusal before the write
-pub asm_refused : (h k : Option Names) (b n : Counts) (t u : Option (List ℕ)) (f g : ℕ) (d s i : List ℕ) (o : Outcome) (status : Status) → LeavesFiles h k b n 2
-    → AsmSettles (store h b) (store k n) d s i (telling o) → Told o t u f g status → Answers (moment h b t f) (moment k n u g) (Some (Asm d s i)) status
-asm_refused h k b n t u f g d s i o status l a told = record {
-  first = a.first;
-  second = a.second;
-  third = Unread;
-  readings = record { first_cause = a.first_cause; second_cause = a.second_cause; calls = omega (arith, a.calls) };
-  work = telling o;
-  comes = a.comes;
-  outcome = o;
-  filed = kept h k b n 2 o l;
-  told = told;
-}
+unsaved : (m n : Store) (w : Work) (f : Option Written) (e : Refusal) → w.file ≡ f → IsStored m n f (Err e) → Filed m n w (refused e)
+unsaved m n w None e is x = absurd x
+unsaved m n w (Some f) e is (call, inl x) = Failed f is x.1 call x.2 x.0
+unsaved m n w (Some f) e is (call, inr x) = Starved f is x.1 call x.0
 
 -- what came of the write is told
-asm_filed : (h k q : Option Names) (b m n : Counts) (t u : Option (List ℕ)) (f g : ℕ) (d s i : List ℕ) (w : Work) (o : Outcome) (status : Status)
-    → AsmSettles (store h b) (store k m) d s i w → LeavesReads m n w.file → Filed (store h b) (store q n) w o → Told o t u f g status
-    → Answers (moment h b t f) (moment q n u g) (Some (Asm d s i)) status
-asm_filed h k q b m n t u f g d s i w o status a l filed told = record {
-  first = a.first;
-  second = a.second;
-  third = Unread;
-  readings = record {
-    first_cause = stays h b m n w.file d a.first l a.first_cause;
-    second_cause = stays h b m n w.file s a.second l a.second_cause;
-    calls = omega (arith, a.calls, l.calls);
-  };
+filed_told : (b m n : Store) (t u : Option (List ℕ)) (f g : ℕ) (form : Option Form) (w : Work) (o : Reply) (status : Status) → Settles b m (named_to_read form) (ComesTo form) w
+    → IsNamed w.file (named_to_write form) → Filed m n w o → Told o t u f g status → Answers (at b t f) (at n u g) form status
+filed_told b m n t u f g form w o status s named filed told = record {
+  asked = s.asked;
+  read = m;
+  reads = s.reads;
+  named = s.named;
   work = w;
-  comes = a.comes;
-  outcome = o;
+  comes = s.is;
+  writes = named;
+  told = o;
   filed = filed;
-  told = told;
+  puts = told;
 }
 
-pub asm_saved : (h k q : Option Names) (b m n : Counts) (t u : Option (List ℕ)) (f g : ℕ) (d s i : List ℕ) (w : Work) (status : Status) → LeavesFiles h k b m 2
-    → AsmSettles (store h b) (store k m) d s i w → IsStored (store k m) (store q n) w.file (Ok tt) → LeavesReads m n w.file → Told w.outcome t u f g status
-    → Answers (moment h b t f) (moment q n u g) (Some (Asm d s i)) status
-asm_saved h k q b m n t u f g d s i w status l a stored r told =
-    asm_filed h k q b m n t u f g d s i w w.outcome status a r (Kept (saved h k q b m n 2 w.file l stored) refl) told
+named_so : (i : List ℕ) (bytes : Option (Vec ℕ)) → IsNamed (file_named i bytes) (Some i)
+named_so i None = tt
+named_so i (Some bytes) = refl
 
-pub asm_unsaved : (h k q : Option Names) (b m n : Counts) (t u : Option (List ℕ)) (f g : ℕ) (d s i : List ℕ) (w : Work) (e : Refusal) (status : Status) → LeavesFiles h k b m 2
-    → AsmSettles (store h b) (store k m) d s i w → IsStored (store k m) (store q n) w.file (Err e) → LeavesReads m n w.file → Told (refused e) t u f g status
-    → Answers (moment h b t f) (moment q n u g) (Some (Asm d s i)) status
-asm_unsaved h k q b m n t u f g d s i w e status l a stored r told =
-    asm_filed h k q b m n t u f g d s i w (refused e) status a r (unsaved h k q b m n 2 w w.file e refl l stored) told
+pub saved_told : (b m n : Store) (t u : Option (List ℕ)) (f g : ℕ) (form : Option Form) (i : List ℕ) (bytes : Option (Vec ℕ)) (o : Reply) (status : Status)
+    → named_to_write form ≡ Some i → Settles b m (named_to_read form) (ComesTo form) (record { file = file_named i bytes; reply = o })
+    → IsStored m n (file_named i bytes) (Ok tt) → Told o t u f g status → Answers (at b t f) (at n u g) form status
+saved_told b m n t u f g form i bytes o status e s stored told =
+    filed_told b m n t u f g form (record { file = file_named i bytes; reply = o }) o status s
+    (subst (IsNamed (file_named i bytes)) (sym e) (named_so i bytes)) (Kept (saved m n (file_named i bytes) stored) refl) told
+
+pub unsaved_told : (b m n : Store) (t u : Option (List ℕ)) (f g : ℕ) (form : Option Form) (i : List ℕ) (bytes : Option (Vec ℕ)) (o : Reply) (e : Refusal) (status : Status)
+    → named_to_write form ≡ Some i → Settles b m (named_to_read form) (ComesTo form) (record { file = file_named i bytes; reply = o })
+    → IsStored m n (file_named i bytes) (Err e) → Told (refused e) t u f g status → Answers (at b t f) (at n u g) form status
+unsaved_told b m n t u f g form i bytes o e status is s stored told =
+    let w : Work = record { file = file_named i bytes; reply = o } in
+    filed_told b m n t u f g form w (refused e) status s
+    (subst (IsNamed (file_named i bytes)) (sym is) (named_so i bytes)) (unsaved m n w (file_named i bytes) e refl stored) told
 
 -- ---- `run`
 
-pub run_refused : (h k : Option Names) (b n : Counts) (t u : Option (List ℕ)) (f g : ℕ) (d i x : List ℕ) (steps : ℕ) (o : Outcome) (status : Status) → LeavesFiles h k b n 3
-    → RunRefused (store h b) (store k n) d i x o → Told o t u f g status → Answers (moment h b t f) (moment k n u g) (Some (Run d i x steps)) status
-run_refused h k b n t u f g d i x steps o status l a told = record {
-  first = a.first;
-  second = a.second;
-  third = a.third;
-  readings = a.readings;
-  work = telling o;
-  comes = a.comes steps;
-  outcome = o;
-  filed = kept h k b n 3 o l;
-  told = told;
-}
-
-pub run_told : (h k : Option Names) (b n : Counts) (t u : Option (List ℕ)) (f g : ℕ) (d i x : List ℕ) (steps : ℕ) (r : Ready) (status : Status) → LeavesFiles h k b n 3
-    → IsReady (store h b) (store k n) d i x r.plain r.image → TellsRun (opened r) steps t u f g status → Answers (moment h b t f) (moment k n u g) (Some (Run d i x steps)) status
-run_told h k b n t u f g d i x steps r status l a tells = record {
-  first = Got a.bytes;
-  second = Got a.bits;
-  third = Got a.text;
-  readings = a.readings;
-  work = telling (told_run tells.run);
-  comes = Opened a.bytes refl
-      (Described (description_of r.plain) a.described
-      (Opened a.bits refl (Loaded _ a.image_is (Opened a.text refl (Ran a.blank tells.run tells.runs refl)))));
-  outcome = told_run tells.run;
-  filed = kept h k b n 3 (told_run tells.run) l;
-  told = tells.told;
-}
+pub run_told : (b n : Store) (t u : Option (List ℕ)) (f g : ℕ) (d i x : List ℕ) (steps : ℕ) (r : Ready) (status : Status) → IsReady b n d i x r.plain r.image
+    → TellsRun (opened r) steps t u f g status → Answers (at b t f) (at n u g) (Some (Run d i x steps)) status
+run_told b n t u f g d i x steps r status a tells =
+    told_alone b n t u f g (Some (Run d i x steps)) (told_run tells.run) status
+    (arrived b n n _ _ _ _ _ (a.arrives steps) (here n [] _ _ (inl (tells.run, tells.runs, record { last = refl; is = refl })))) tells.told
 
 -- what a run begins with is a plain description with PC
-pub ready_is_plain : (h k : Option Names) (b n : Counts) (d i x : List ℕ) (r : Ready) → IsReady (store h b) (store k n) d i x r.plain r.image → IsPlain (description_of r.plain)
-ready_is_plain h k b n d i x r a = a.described.plain.plain
+pub ready_is_plain : (b n : Store) (d i x : List ℕ) (r : Ready) → IsReady b n d i x r.plain r.image → IsPlain (description_of r.plain)
+ready_is_plain b n d i x r a = a.described.built.plain.plain
 
 some_regs : (n : ℕ) → IsTrue (nat_lt 0 n) → 0 < n
 some_regs n h = grind (arith, nat_tests)
 
-pub ready_has_pc : (h k : Option Names) (b n : Counts) (d i x : List ℕ) (r : Ready) → IsReady (store h b) (store k n) d i x r.plain r.image → 0 < length r.plain.regs.items
-ready_has_pc h k b n d i x r a = omega (arith, some_regs _ a.described.built, length-map r.plain.regs.items field_of)
+pub ready_has_pc : (b n : Store) (d i x : List ℕ) (r : Ready) → IsReady b n d i x r.plain r.image → 0 < length r.plain.regs.items
+ready_has_pc b n d i x r a = omega (arith, some_regs _ a.described.built.built, length-map r.plain.regs.items field_of)
 
 -- ---- other words
 
-same_store : (h : Option Names) (b : Counts) → KeepsFiles (store h b) (store h b)
-same_store h b = record { held = refl; faults = refl }
-
 -- a command that isn't built
-pub other_told : (h : Option Names) (b : Counts) (t u : Option (List ℕ)) (f g : ℕ) (form : Option Form) (status : Status) → IsOther form → Told not_built t u f g status
-    → Answers (moment h b t f) (moment h b u g) form status
-other_told h b t u f g None status o told = absurd o
-other_told h b t u f g (Some (Asm d s i)) status o told = absurd o
-other_told h b t u f g (Some (Run d i x n)) status o told = absurd o
-other_told h b t u f g (Some (Check d)) status o told =
-    record { first = Unread; second = Unread; third = Unread; readings = refl; work = telling not_built; comes = refl; outcome = not_built; filed = Kept (same_store h b) refl; told = told }
-other_told h b t u f g (Some (Dis d i)) status o told =
-    record { first = Unread; second = Unread; third = Unread; readings = refl; work = telling not_built; comes = refl; outcome = not_built; filed = Kept (same_store h b) refl; told = told }
-other_told h b t u f g (Some (Cc d c i)) status o told =
-    record { first = Unread; second = Unread; third = Unread; readings = refl; work = telling not_built; comes = refl; outcome = not_built; filed = Kept (same_store h b) refl; told = told }
-other_told h b t u f g (Some (Ceval d c x n)) status o told =
-    record { first = Unread; second = Unread; third = Unread; readings = refl; work = telling not_built; comes = refl; outcome = not_built; filed = Kept (same_store h b) refl; told = told }
-other_told h b t u f g (Some (Demo k)) status o told =
-    record { first = Unread; second = Unread; third = Unread; readings = refl; work = telling not_built; comes = refl; outcome = not_built; filed = Kept (same_store h b) refl; told = told }
+pub other_told : (s : Store) (t u : Option (List ℕ)) (f g : ℕ) (form : Option Form) (status : Status) → IsOther form → Told not_built t u f g status
+    → Answers (at s t f) (at s u g) form status
+other_told s t u f g None status o told = absurd o
+other_told s t u f g (Some (Asm d c i)) status o told = absurd o
+other_told s t u f g (Some (Run d i x n)) status o told = absurd o
+other_told s t u f g (Some (Check d)) status o told = told_alone s s t u f g (Some (Check d)) not_built status (here s _ _ _ (inl (record { last = refl; is = refl }))) told
+other_told s t u f g (Some (Dis d i)) status o told = told_alone s s t u f g (Some (Dis d i)) not_built status (here s _ _ _ (inl (record { last = refl; is = refl }))) told
+other_told s t u f g (Some (Cc d c i)) status o told = told_alone s s t u f g (Some (Cc d c i)) not_built status (here s _ _ _ (inl (record { last = refl; is = refl }))) told
+other_told s t u f g (Some (Ceval d c x n)) status o told = told_alone s s t u f g (Some (Ceval d c x n)) not_built status (here s _ _ _ (inl (record { last = refl; is = refl }))) told
+other_told s t u f g (Some (Demo k)) status o told = told_alone s s t u f g (Some (Demo k)) not_built status (here s _ _ _ (inl (record { last = refl; is = refl }))) told
 
 -- words of no form
-pub usage_told : (h : Option Names) (b : Counts) (t u : Option (List ℕ)) (f g : ℕ) (form : Option Form) (status : Status) → None ≡ form
-    → Told (outcome statuses.Usage usage_line) t u f g status → Answers (moment h b t f) (moment h b u g) form status
-usage_told h b t u f g form status e told =
-    let by : Answers (moment h b t f) (moment h b u g) None status = record {
-      first = Unread;
-      second = Unread;
-      third = Unread;
-      readings = refl;
-      work = telling (outcome statuses.Usage usage_line);
-      comes = refl;
-      outcome = outcome statuses.Usage usage_line;
-      filed = Kept (same_store h b) refl;
-      told = told;
-    } in
-    subst (λ x. Answers (moment h b t f) (moment h b u g) x status) e by
+pub usage_told : (s : Store) (t u : Option (List ℕ)) (f g : ℕ) (form : Option Form) (status : Status) → None ≡ form
+    → Told (reply statuses.Usage usage_line) t u f g status → Answers (at s t f) (at s u g) form status
+usage_told s t u f g form status e told =
+    subst (λ x. Answers (at s t f) (at s u g) x status) e
+    (told_alone s s t u f g None (reply statuses.Usage usage_line) status (here s _ _ _ (inl (record { last = refl; is = refl }))) told)

@@ -10,12 +10,12 @@ use Rattle.nml_tree.specs.declared.rules.Plain.{Plain}
 use Rattle.nml_tree.specs.declared.rules.PlainField.{PlainField}
 use Rattle.nml_tree.specs.declared.rules.PlainRule.{PlainRule}
 use Rattle.nml_tree.specs.declared.tree.Desc.{Desc}
-use Rattle.nml_suite.specs.Coming.{is_built}
-use Rattle.nml_suite.specs.Outcome.{not_built_file}
-use Rattle.nml_suite.specs.Refused.{IsDescribedBy, refused}
+use Rattle.nml_suite.specs.Described.{is_built}
+use Rattle.nml_suite.specs.Reply.{not_built_file}
+use Rattle.nml_suite.specs.Refusing.{IsDescribedBy, refused}
 use Rattle.nml_suite.specs.declared.purpose.Purpose.{Purpose}
 use Rattle.nml_suite.specs.declared.refusal.Refusal.{Refusal}
-use Rattle.nml_suite.proofs.OneFault.{one_plain_tree}
+use Rattle.nml_suite.proofs.OneFault.{one_built}
 
 -- rules without actions are so in memory too
 pub all_mapped : (rules : List PlainRule) → list_all (λ r. nat_eq (length r.action) 0) (map rule_of rules) ≡ list_all (λ r. nat_eq (length r.action.items) 0) rules
@@ -34,4 +34,4 @@ pub described_by : (purpose : Purpose) (name : List ℕ) (t : Desc) (p : Plain) 
 described_by purpose name t p (Ok q) is kept other =
     subst (λ z. IsDescribedBy purpose name t (Ok z)) (sym kept.0) (record { plain = is; built = kept.1 })
 described_by purpose name t p (Err e) is kept other =
-    inr (other.0, λ d w. false≢true (sym other.1 ∙ ap (is_built purpose) (one_plain_tree t (description_of p) d is w.plain) ∙ w.built))
+    inr (other.0, λ d w. false≢true (sym other.1 ∙ ap (is_built purpose) (one_built t (description_of p) d is w.plain) ∙ w.built))

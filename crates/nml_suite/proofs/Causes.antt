@@ -1,208 +1,230 @@
 -- When each answer of the top call comes, from what it answers.
-use Rattle.std.proofs.Common.{◌≡◌, ℕ, zero, suc, List, Option, Some, None, refl, sym, ap, ◌∙◌, subst, inl, inr}
+use Rattle.std.proofs.Common.{◌≡◌, ◌⊎◌, ◌≤◌, ◌+◌, ℕ, zero, suc, List, [], ◌∷◌, length, Option, Some, None, refl, sym, ap, ◌∙◌, subst, inl, inr, arith}
+use Rattle.std.specs.Prelude.{slice_get}
 use Rattle.nk_outside.specs.Held.{Reads}
 use Rattle.nk_outside.specs.Taken.{Took}
 use Rattle.nml_tree.specs.Description.{Description}
+use Rattle.nml_tree.specs.declared.tree.Desc.{Desc}
+use Rattle.image_file.specs.File.{Picture}
 use Rattle.bit_sim.specs.Machine.{Stop, Running, Halted, NoWord, BadWord}
 use Rattle.bit_sim.specs.Machine as machine
-use Rattle.image_file.specs.File.{Picture}
 use Rattle.asm_tool.specs.PlainText.{lines}
-use Rattle.nml_suite.specs.Answer.{Moment, Answers, HasReadings, ReadsTwo, ReadsThree, Filed, IsSaved}
-use Rattle.nml_suite.specs.Answer as answers
-use Rattle.nml_suite.specs.Cause.{NamesToRead, HasCause, HasRead, HasMachine, HasImage, IsUsage}
-use Rattle.nml_suite.specs.Coming.{Opens, Short, Opened, Spells, Faulty, NoDescription, Described, Describes, AssemblesTo, NotPlain, NoMatch, Words, Loads, NoImage, Loaded, IsImageOf, RunsTo, Input, Ran, AsmComesTo, RunComesTo, ComesTo, first_input}
-use Rattle.nml_suite.specs.Form.{Form, Check, Asm, Dis, Run, Cc, Ceval, Demo}
-use Rattle.nml_suite.specs.Outcome.{Outcome, Work, telling, unread, outcome, usage_line, not_built, stop_status, told_run}
-use Rattle.nml_suite.specs.Reading.{Reading, Got, Absent, Failed, TooLong, Unread, IsShort, HasReading}
-use Rattle.nml_suite.specs.Told.{Told, Whole, Cut, Starved, EndsIn}
+use Rattle.nml_suite.specs.Answer.{Moment, Answers}
+use Rattle.nml_suite.specs.Cause.{HasCause, HasShortFile, HasBytes, HasDescription, HasOtherDescription, HasText, HasMachine, HasImage, IsNotBuilt, Command, Assembled, Text, Machine, Image, IsUsage}
+use Rattle.nml_suite.specs.Coming.{EndsWith, Opens, Short, Opened, Accepts, Faulty, Accepted, Simplifies, Other, Plain, AssemblesTo, NotPlain, NoMatch, Words, Loads, NoImage, Loaded, RunsTo, Input, Ran, IsImageOf, AsmComesTo, RunComesTo, ComesTo, first_input}
+use Rattle.nml_suite.specs.Described.{IsAccepted, IsBuilt}
+use Rattle.nml_suite.specs.Files.{HaveCauses, Leaves}
+use Rattle.nml_suite.specs.Form.{Form, Check, Asm, Dis, Run, Cc, Ceval, Demo, named_to_read}
+use Rattle.nml_suite.specs.Reading.{Store, Reading, Got, Absent, Failed, TooLong, Unread, IsShort, HasReading, Asked}
+use Rattle.nml_suite.specs.Reply.{Reply, unread, starved, not_built, stop_status, told_run}
+use Rattle.nml_suite.specs.Told.{Told, Whole, Cut, Starved, CutStarved, EndsIn}
+use Rattle.nml_suite.specs.Work.{Work, telling, Filed, Kept}
+use Rattle.nml_suite.specs.Work as works
+use Rattle.nml_suite.specs.declared.purpose.Purpose.{Purpose}
 use Rattle.nml_suite.specs.declared.purpose.Purpose.TheVariants as purposes
 use Rattle.nml_suite.specs.declared.status.Status.{Status}
 use Rattle.nml_suite.specs.declared.status.Status.TheVariants as statuses
+use Rattle.nml_suite.proofs.Filing.{calls_without, counted_by, leaves_of}
+use Rattle.nml_suite.proofs.Reads.{Later, causes, reads_later}
 
--- a call that told the whole text of an outcome has its cause
-abbrev Owes : Moment → Moment → Option Form → Outcome → Type 0
+-- a call that told the whole text has its cause
+abbrev Owes : Moment → Moment → Option Form → Reply → Type 0
 Owes b n form o = Took b.taken n.taken o.text → HasCause b n form o.status
 
-owes_as : (b n : Moment) (form : Option Form) (w : Work) (o : Outcome) → w ≡ telling o → Owes b n form o → Owes b n form w.outcome
-owes_as b n form w o e h = subst (λ x. Owes b n form x.outcome) (sym e) h
+-- where the call ends with this
+ends_owe : (b n : Moment) (form : Option Form) (xs : List Asked) (w : Work) (o : Reply) → EndsWith o xs w → Owes b n form o → Owes b n form w.reply
+ends_owe b n form xs w o e h = subst (λ x. Owes b n form x.reply) (sym e.is) h
 
-unread_owes : (b n : Moment) (form : Option Form) (name : List ℕ) (r : Reading) → NamesToRead form name → IsShort r
-    → HasReading b.store.held b.store.counts n.store.counts name r → Owes b n form (unread name r)
-unread_owes b n form name (Got bytes) named short c = absurd short
-unread_owes b n form name Absent named short c = λ t. inl (record { name = name; named = named; lacks = c.0; rose = c.1; text = t })
-unread_owes b n form name Failed named short c = λ t. inr (record { name = name; named = named; rose = c; text = t })
-unread_owes b n form name TooLong named short c = λ t. record { name = name; named = named; long = c; text = t }
-unread_owes b n form name Unread named short c = λ t. tt
+-- what the calls of a work without a file are, behind so many reads
+abbrev CallsBehind : Moment → Moment → ℕ → List Asked → Work → Type 0
+CallsBehind b n k xs w = w.file ≡ None → n.store.counts.calls ≤ b.store.counts.calls + (k + length xs)
 
--- what was read
-got : (b n : Moment) (name bytes : List ℕ) (r : Reading) → r ≡ Got bytes → HasReading b.store.held b.store.counts n.store.counts name r → Reads b.store.held name bytes
-got b n name bytes r e c = subst (HasReading b.store.held b.store.counts n.store.counts name) e c
+fewer : (b n : Moment) (k : ℕ) (x : Asked) (xs : List Asked) (w : Work) → CallsBehind b n k (x ∷ xs) w → CallsBehind b n (suc k) xs w
+fewer b n k x xs w h e = omega (arith, h e)
+
+-- ---- the steps
+
+short_owes : (b n : Moment) (form : Option Form) (k : ℕ) (name : List ℕ) (r : Reading) → slice_get (named_to_read form) k ≡ Some name → n.store.counts.calls ≤ b.store.counts.calls + suc k
+    → IsShort r → HasReading b.store.held b.store.counts n.store.counts name r → Owes b n form (unread name r)
+short_owes b n form k name (Got bytes) named calls short c = absurd short
+short_owes b n form k name Absent named calls short c = λ t. inl (record { file = record { name = name; place = k; named = named; calls = calls; told = t }; lacks = c.0; rose = c.1 })
+short_owes b n form k name Failed named calls short c = λ t. inr (record { file = record { name = name; place = k; named = named; calls = calls; told = t }; rose = c })
+short_owes b n form k name TooLong named calls short c = λ t. record { file = record { name = name; place = k; named = named; calls = calls; told = t }; long = c }
+short_owes b n form k name Unread named calls short c = absurd short
+
+opens_owe : (b n : Moment) (form : Option Form) (k : ℕ) (name : List ℕ) (goes : List ℕ → List Asked → Work → Type 0) (xs : List Asked) (w : Work)
+    → slice_get (named_to_read form) k ≡ Some name → CallsBehind b n k xs w → HaveCauses b.store n.store xs
+    → ((bytes : List ℕ) (more : List Asked) → Reads b.store.held name bytes → CallsBehind b n (suc k) more w → HaveCauses b.store n.store more → goes bytes more w → Owes b n form w.reply)
+    → Opens name goes xs w → Owes b n form w.reply
+opens_owe b n form k name goes xs w named calls c h (Short r e short is) =
+    let d : HaveCauses b.store n.store ((name, r) ∷ []) = subst (HaveCauses b.store n.store) e c in
+    let m : CallsBehind b n k ((name, r) ∷ []) w = subst (λ ys. CallsBehind b n k ys w) e calls in
+    subst (λ x. Owes b n form x.reply) (sym is) (short_owes b n form k name r named (omega (arith, m (ap (λ x. x.file) is))) short d.0)
+opens_owe b n form k name goes xs w named calls c h (Opened bytes more e g) =
+    let d : HaveCauses b.store n.store ((name, Got bytes) ∷ more) = subst (HaveCauses b.store n.store) e c in
+    let m : CallsBehind b n k ((name, Got bytes) ∷ more) w = subst (λ ys. CallsBehind b n k ys w) e calls in
+    h bytes more d.0 (fewer b n k (name, Got bytes) more w m) d.1 g
+
+accepts_owe : (b n : Moment) (form : Option Form) (f : HasBytes b form 0) (goes : Desc → List Asked → Work → Type 0) (xs : List Asked) (w : Work)
+    → ((tree : Desc) → IsAccepted f.bytes tree → goes tree xs w → Owes b n form w.reply) → Accepts f.name f.bytes goes xs w → Owes b n form w.reply
+accepts_owe b n form f goes xs w h (Faulty fault x e) = ends_owe b n form xs w _ e (λ t. record { file = f; fault = fault; faulty = x; told = t })
+accepts_owe b n form f goes xs w h (Accepted tree a g) = h tree a g
+
+simplifies_owe : (b n : Moment) (form : Option Form) (purpose : Purpose) (f : HasBytes b form 0) (tree : Desc) (goes : Description → List Asked → Work → Type 0) (xs : List Asked) (w : Work)
+    → IsAccepted f.bytes tree → (HasOtherDescription purpose b n form → IsNotBuilt b n form)
+    → ((d : HasDescription purpose b form) → d.file ≡ f → goes d.plain xs w → Owes b n form w.reply)
+    → Simplifies purpose f.name tree goes xs w → Owes b n form w.reply
+simplifies_owe b n form purpose f tree goes xs w a row h (Other none e) = ends_owe b n form xs w _ e (λ t. row (record { file = f; tree = tree; accepted = a; none = none; told = t }))
+simplifies_owe b n form purpose f tree goes xs w a row h (Plain d built g) =
+    h (record { file = f; plain = d; described = record { tree = tree; accepted = a; built = built } }) refl g
 
 -- ---- `asm`
 
-abbrev files_of : (b : Moment) (d s i bytes : List ℕ) (x : Description) (text : List ℕ) → Reads b.store.held d bytes → Describes purposes.Assembling bytes x → Reads b.store.held s text
-    → HasRead b (Some (Asm d s i))
-files_of b d s i bytes x text r t u = record { description = d; source = s; image = i; is = refl; bytes = bytes; read = r; plain = x; described = t; text = text; text_read = u }
-
-text_owes : (b n : Moment) (d s i bytes : List ℕ) (x : Description) (text : List ℕ) (w : Work) → Reads b.store.held d bytes → Describes purposes.Assembling bytes x → Reads b.store.held s text
-    → IsSaved b.store n.store w.file → AssemblesTo s i bytes x text w → Owes b n (Some (Asm d s i)) w.outcome
-text_owes b n d s i bytes x text w r t u saved (NotPlain c e) =
-    owes_as b n (Some (Asm d s i)) w _ e (λ o. inr (inl (inr (record { files = files_of b d s i bytes x text r t u; other = c; told = o }))))
-text_owes b n d s i bytes x text w r t u saved (NoMatch c line l e) =
-    owes_as b n (Some (Asm d s i)) w _ e (λ o. record { files = files_of b d s i bytes x text r t u; fit = c; line = line; fails = l; told = o })
-text_owes b n d s i bytes x text w r t u saved (Words c words l e) = λ o.
-    subst (λ k. HasCause b n (Some (Asm d s i)) k.outcome.status) (sym e) (inl (record {
-      assembled_as = record { files = files_of b d s i bytes x text r t u; fit = c; words = words; assembles = l };
-      saved = subst (λ k. IsSaved b.store n.store k.file) e saved;
-      told = subst (λ k. Took b.taken n.taken k.outcome.text) e o;
+text_owes : (b n : Moment) (d s i : List ℕ) (x : HasDescription purposes.Assembling b (Some (Asm d s i))) (f : HasBytes b (Some (Asm d s i)) 1) (xs : List Asked) (w : Work)
+    → Leaves b.store n.store w.file → AssemblesTo f.name i x.file.bytes x.plain f.bytes xs w → Owes b n (Some (Asm d s i)) w.reply
+text_owes b n d s i x f xs w saved (NotPlain c e) =
+    ends_owe b n (Some (Asm d s i)) xs w _ e (λ t. Text (record { files = record { asm = tt; description = x; text = f }; other = c; told = t }))
+text_owes b n d s i x f xs w saved (NoMatch c line l e) =
+    ends_owe b n (Some (Asm d s i)) xs w _ e (λ t. record { files = record { asm = tt; description = x; text = f }; fit = c; line = line; fails = l; told = t })
+text_owes b n d s i x f xs w saved (Words c words l last e) = λ t.
+    subst (λ (k : Work). HasCause b n (Some (Asm d s i)) k.reply.status) (sym e) (inl (record {
+      files = record { asm = tt; description = x; text = f };
+      fit = c;
+      words = words;
+      assembles = l;
+      image = i;
+      named = refl;
+      saved = subst (λ (k : Work). Leaves b.store n.store k.file) e saved;
+      told = subst (λ (k : Work). Took b.taken n.taken k.reply.text) e t;
     }))
 
-source_owes : (b n : Moment) (d s i bytes : List ℕ) (x : Description) (second : Reading) (w : Work) → Reads b.store.held d bytes → Describes purposes.Assembling bytes x
-    → HasReading b.store.held b.store.counts n.store.counts s second → IsSaved b.store n.store w.file → Opens s second (AssemblesTo s i bytes x) w → Owes b n (Some (Asm d s i)) w.outcome
-source_owes b n d s i bytes x second w r t c saved (Short h e) = owes_as b n (Some (Asm d s i)) w _ e (unread_owes b n (Some (Asm d s i)) s second (inr refl) h c)
-source_owes b n d s i bytes x second w r t c saved (Opened text e a) = text_owes b n d s i bytes x text w r t (got b n s text second e c) saved a
-
-bytes_owe : (b n : Moment) (d s i bytes : List ℕ) (second : Reading) (w : Work) → Reads b.store.held d bytes → HasReading b.store.held b.store.counts n.store.counts s second
-    → IsSaved b.store n.store w.file → Spells purposes.Assembling d bytes (λ x. Opens s second (AssemblesTo s i bytes x)) w → Owes b n (Some (Asm d s i)) w.outcome
-bytes_owe b n d s i bytes second w r c saved (Faulty f v e) =
-    owes_as b n (Some (Asm d s i)) w _ e (λ o. record { name = d; named = refl; bytes = bytes; read = r; fault = f; faulty = v; text = o })
-bytes_owe b n d s i bytes second w r c saved (NoDescription t is clear none e) =
-    owes_as b n (Some (Asm d s i)) w _ e (λ o. inr (inl (inl (record {
-      description = d;
-      source = s;
-      image = i;
-      is = refl;
-      bytes = bytes;
-      read = r;
-      tree = t;
-      is_tree = is;
-      no_float = clear;
-      none = none;
-      text = o;
-    }))))
-bytes_owe b n d s i bytes second w r c saved (Described x t o) = source_owes b n d s i bytes x second w r t c saved o
-
-asm_owes : (b n : Moment) (d s i : List ℕ) (first second : Reading) (w : Work) → ReadsTwo b.store n.store d s first second → IsSaved b.store n.store w.file → AsmComesTo d s i first second w
-    → Owes b n (Some (Asm d s i)) w.outcome
-asm_owes b n d s i first second w r saved (Short h e) = owes_as b n (Some (Asm d s i)) w _ e (unread_owes b n (Some (Asm d s i)) d first (inl refl) h r.first_cause)
-asm_owes b n d s i first second w r saved (Opened bytes e a) = bytes_owe b n d s i bytes second w (got b n d bytes first e r.first_cause) r.second_cause saved a
+asm_owes : (b n : Moment) (d s i : List ℕ) (xs : List Asked) (w : Work) → CallsBehind b n 0 xs w → HaveCauses b.store n.store xs → Leaves b.store n.store w.file
+    → AsmComesTo d s i xs w → Owes b n (Some (Asm d s i)) w.reply
+asm_owes b n d s i xs w calls c saved =
+    let form = Some (Asm d s i) in
+    opens_owe b n form 0 d _ xs w refl calls c
+    (λ bytes more r calls_more c_more.
+    let f : HasBytes b form 0 = record { name = d; named = refl; bytes = bytes; read = r } in
+    accepts_owe b n form f _ more w
+    (λ tree a. simplifies_owe b n form purposes.Assembling f tree _ more w a (Assembled tt)
+    (λ x is. opens_owe b n form 1 s _ more w refl calls_more c_more
+    (λ text rest t calls_rest c_rest g.
+    text_owes b n d s i x (record { name = s; named = refl; bytes = text; read = t }) rest w saved
+    (subst (λ (y : HasBytes b form 0). AssemblesTo s i y.bytes x.plain text rest w) (sym is) g)))))
 
 -- ---- `run`
 
-stop_owes : (b n : Moment) (form : Option Form) (l : HasImage b form) (r : machine.Outcome) (stop : Stop) → first_input 1 (lines l.text) ≡ None
-    → machine.Runs l.files.plain l.picture.words l.files.steps (machine.beginning l.files.plain) r → r.stop ≡ stop → Took b.taken n.taken (told_run r).text → HasCause b n form (stop_status stop)
+stop_owes : (b n : Moment) (form : Option Form) (l : HasImage b form) (r : machine.Outcome) (stop : Stop) → first_input 1 (lines l.input.bytes) ≡ None
+    → machine.Runs l.files.description.plain l.picture.words l.files.steps (machine.beginning l.files.description.plain) r → r.stop ≡ stop → Took b.taken n.taken (told_run r).text
+    → HasCause b n form (stop_status stop)
 stop_owes b n form l r Running blank runs e t = record { loaded = l; blank = blank; run = r; runs = runs; stop = e; told = t }
 stop_owes b n form l r (Halted zero) blank runs e t = inr (record { loaded = l; blank = blank; run = r; runs = runs; stop = e; told = t })
 stop_owes b n form l r (Halted (suc code)) blank runs e t = record { loaded = l; blank = blank; run = r; runs = runs; stop = (code, e); told = t }
 stop_owes b n form l r (NoWord place) blank runs e t = record { loaded = l; blank = blank; run = r; runs = runs; stop = (place, e); told = t }
 stop_owes b n form l r (BadWord place) blank runs e t = record { loaded = l; blank = blank; run = r; runs = runs; stop = (place, e); told = t }
 
-abbrev machine_of : (b : Moment) (d i x : List ℕ) (steps : ℕ) (bytes : List ℕ) (p : Description) (bits : List ℕ) → Reads b.store.held d bytes → Describes purposes.Running bytes p → Reads b.store.held i bits
-    → HasMachine b (Some (Run d i x steps))
-machine_of b d i x steps bytes p bits r t u = record { description = d; image = i; input = x; steps = steps; is = refl; bytes = bytes; read = r; plain = p; described = t; bits = bits; bits_read = u }
+input_owes : (b n : Moment) (form : Option Form) (l : HasImage b form) (xs : List Asked) (w : Work)
+    → RunsTo l.input.name l.files.steps l.files.description.plain l.picture.words l.input.bytes xs w → Owes b n form w.reply
+input_owes b n form l xs w (Input line is e) = ends_owe b n form xs w _ e (λ t. record { loaded = l; line = line; is = is; told = t })
+input_owes b n form l xs w (Ran blank r runs e) = ends_owe b n form xs w _ e (λ t. stop_owes b n form l r r.stop blank runs refl t)
 
-input_owes : (b n : Moment) (d i x : List ℕ) (steps : ℕ) (bytes : List ℕ) (p : Description) (bits : List ℕ) (image : Picture) (text : List ℕ) (w : Work) → Reads b.store.held d bytes
-    → Describes purposes.Running bytes p → Reads b.store.held i bits → IsImageOf bytes p bits image → Reads b.store.held x text → RunsTo x steps p image.words text w
-    → Owes b n (Some (Run d i x steps)) w.outcome
-input_owes b n d i x steps bytes p bits image text w r t u v y (Input line l e) =
-    owes_as b n (Some (Run d i x steps)) w _ e (λ o. record { loaded = record { files = machine_of b d i x steps bytes p bits r t u; picture = image; is = v; text = text; text_read = y }; line = line; is = l; told = o })
-input_owes b n d i x steps bytes p bits image text w r t u v y (Ran blank run runs e) =
-    owes_as b n (Some (Run d i x steps)) w _ e (λ o.
-    stop_owes b n (Some (Run d i x steps)) (record { files = machine_of b d i x steps bytes p bits r t u; picture = image; is = v; text = text; text_read = y }) run run.stop blank runs refl o)
+-- the image that was found
+abbrev FoundImage : (b : Moment) (form : Option Form) → HasMachine b form → Type 0
+FoundImage b form m = (i : Picture) × IsImageOf m.description.file.bytes m.description.plain m.image.bytes i
 
-opened_input_owes : (b n : Moment) (d i x : List ℕ) (steps : ℕ) (bytes : List ℕ) (p : Description) (bits : List ℕ) (image : Picture) (third : Reading) (w : Work) → Reads b.store.held d bytes
-    → Describes purposes.Running bytes p → Reads b.store.held i bits → IsImageOf bytes p bits image → HasReading b.store.held b.store.counts n.store.counts x third
-    → Opens x third (RunsTo x steps p image.words) w → Owes b n (Some (Run d i x steps)) w.outcome
-opened_input_owes b n d i x steps bytes p bits image third w r t u v c (Short h e) =
-    owes_as b n (Some (Run d i x steps)) w _ e (unread_owes b n (Some (Run d i x steps)) x third (inr (inr refl)) h c)
-opened_input_owes b n d i x steps bytes p bits image third w r t u v c (Opened text e a) = input_owes b n d i x steps bytes p bits image text w r t u v (got b n x text third e c) a
+bits_owe : (b n : Moment) (form : Option Form) (m : HasMachine b form) (goes : List ℕ → List Asked → Work → Type 0) (xs : List Asked) (w : Work)
+    → ((l : FoundImage b form m) → goes l.0.words xs w → Owes b n form w.reply)
+    → Loads m.image.name m.description.file.bytes m.description.plain m.image.bytes goes xs w → Owes b n form w.reply
+bits_owe b n form m goes xs w h (NoImage none e) = ends_owe b n form xs w _ e (λ t. Image (record { files = m; none = none; told = t }))
+bits_owe b n form m goes xs w h (Loaded i is g) = h (i, is) g
 
-bits_owe : (b n : Moment) (d i x : List ℕ) (steps : ℕ) (bytes : List ℕ) (p : Description) (bits : List ℕ) (third : Reading) (w : Work) → Reads b.store.held d bytes
-    → Describes purposes.Running bytes p → Reads b.store.held i bits → HasReading b.store.held b.store.counts n.store.counts x third
-    → Loads i bytes p bits (λ words. Opens x third (RunsTo x steps p words)) w → Owes b n (Some (Run d i x steps)) w.outcome
-bits_owe b n d i x steps bytes p bits third w r t u c (NoImage none e) =
-    owes_as b n (Some (Run d i x steps)) w _ e (λ o. inr (inr (inr (record { files = machine_of b d i x steps bytes p bits r t u; none = none; told = o }))))
-bits_owe b n d i x steps bytes p bits third w r t u c (Loaded image v a) = opened_input_owes b n d i x steps bytes p bits image third w r t u v c a
-
-image_owes : (b n : Moment) (d i x : List ℕ) (steps : ℕ) (bytes : List ℕ) (p : Description) (second third : Reading) (w : Work) → Reads b.store.held d bytes → Describes purposes.Running bytes p
-    → HasReading b.store.held b.store.counts n.store.counts i second → HasReading b.store.held b.store.counts n.store.counts x third
-    → Opens i second (λ bits. Loads i bytes p bits (λ words. Opens x third (RunsTo x steps p words))) w → Owes b n (Some (Run d i x steps)) w.outcome
-image_owes b n d i x steps bytes p second third w r t c k (Short h e) =
-    owes_as b n (Some (Run d i x steps)) w _ e (unread_owes b n (Some (Run d i x steps)) i second (inr (inl refl)) h c)
-image_owes b n d i x steps bytes p second third w r t c k (Opened bits e a) = bits_owe b n d i x steps bytes p bits third w r t (got b n i bits second e c) k a
-
-machine_owes : (b n : Moment) (d i x : List ℕ) (steps : ℕ) (bytes : List ℕ) (second third : Reading) (w : Work) → Reads b.store.held d bytes
-    → HasReading b.store.held b.store.counts n.store.counts i second → HasReading b.store.held b.store.counts n.store.counts x third
-    → Spells purposes.Running d bytes (λ p. Opens i second (λ bits. Loads i bytes p bits (λ words. Opens x third (RunsTo x steps p words)))) w → Owes b n (Some (Run d i x steps)) w.outcome
-machine_owes b n d i x steps bytes second third w r c k (Faulty f v e) =
-    owes_as b n (Some (Run d i x steps)) w _ e (λ o. record { name = d; named = refl; bytes = bytes; read = r; fault = f; faulty = v; text = o })
-machine_owes b n d i x steps bytes second third w r c k (NoDescription t is clear none e) =
-    owes_as b n (Some (Run d i x steps)) w _ e (λ o. inr (inr (inl (record {
-      description = d;
-      image = i;
-      input = x;
-      steps = steps;
-      is = refl;
-      bytes = bytes;
-      read = r;
-      tree = t;
-      is_tree = is;
-      no_float = clear;
-      none = none;
-      text = o;
-    }))))
-machine_owes b n d i x steps bytes second third w r c k (Described p t a) = image_owes b n d i x steps bytes p second third w r t c k a
-
-run_owes : (b n : Moment) (d i x : List ℕ) (steps : ℕ) (first second third : Reading) (w : Work) → ReadsThree b.store n.store d i x first second third → RunComesTo d i x steps first second third w
-    → Owes b n (Some (Run d i x steps)) w.outcome
-run_owes b n d i x steps first second third w r (Short h e) = owes_as b n (Some (Run d i x steps)) w _ e (unread_owes b n (Some (Run d i x steps)) d first (inl refl) h r.first_cause)
-run_owes b n d i x steps first second third w r (Opened bytes e a) = machine_owes b n d i x steps bytes second third w (got b n d bytes first e r.first_cause) r.second_cause r.third_cause a
+run_owes : (b n : Moment) (d i x : List ℕ) (steps : ℕ) (xs : List Asked) (w : Work) → CallsBehind b n 0 xs w → HaveCauses b.store n.store xs
+    → RunComesTo d i x steps xs w → Owes b n (Some (Run d i x steps)) w.reply
+run_owes b n d i x steps xs w calls c =
+    let form = Some (Run d i x steps) in
+    opens_owe b n form 0 d _ xs w refl calls c
+    (λ bytes more r calls_more c_more.
+    let f : HasBytes b form 0 = record { name = d; named = refl; bytes = bytes; read = r } in
+    accepts_owe b n form f _ more w
+    (λ tree a. simplifies_owe b n form purposes.Running f tree _ more w a (Machine steps refl)
+    (λ p is. opens_owe b n form 1 i _ more w refl calls_more c_more
+    (λ bits rest s calls_rest c_rest g.
+    let m : HasMachine b form = record { steps = steps; run = refl; description = p; image = record { name = i; named = refl; bytes = bits; read = s } } in
+    bits_owe b n form m _ rest w
+    (λ l. opens_owe b n form 2 x _ rest w refl calls_rest c_rest
+    (λ text last t calls_last c_last go.
+    input_owes b n form (record { files = m; picture = l.0; is = l.1; input = record { name = x; named = refl; bytes = text; read = t } }) last w go))
+    (subst (λ (y : HasBytes b form 0). Loads i y.bytes p.plain bits (λ words. Opens x (RunsTo x steps p.plain words)) rest w) (sym is) g)))))
 
 -- ---- any words
 
-other_owes : (b n : Moment) (form : Option Form) (w : Work) → (Took b.taken n.taken not_built.text → HasCause b n form statuses.NotBuilt) → w ≡ telling not_built → Owes b n form w.outcome
-other_owes b n form w h e = owes_as b n form w not_built e h
+work_owes : (b n : Moment) (form : Option Form) (xs : List Asked) (w : Work) → CallsBehind b n 0 xs w → HaveCauses b.store n.store xs → Leaves b.store n.store w.file
+    → ComesTo form xs w → Owes b n form w.reply
+work_owes b n None xs w calls c saved e = ends_owe b n None xs w _ e (λ t. (refl, t))
+work_owes b n (Some (Asm d s i)) xs w calls c saved g = asm_owes b n d s i xs w calls c saved g
+work_owes b n (Some (Run d i x k)) xs w calls c saved g = run_owes b n d i x k xs w calls c g
+work_owes b n (Some (Check d)) xs w calls c saved e = ends_owe b n (Some (Check d)) xs w not_built e (λ t. Command tt t)
+work_owes b n (Some (Dis d i)) xs w calls c saved e = ends_owe b n (Some (Dis d i)) xs w not_built e (λ t. Command tt t)
+work_owes b n (Some (Cc d s i)) xs w calls c saved e = ends_owe b n (Some (Cc d s i)) xs w not_built e (λ t. Command tt t)
+work_owes b n (Some (Ceval d s x k)) xs w calls c saved e = ends_owe b n (Some (Ceval d s x k)) xs w not_built e (λ t. Command tt t)
+work_owes b n (Some (Demo k)) xs w calls c saved e = ends_owe b n (Some (Demo k)) xs w not_built e (λ t. Command tt t)
 
-work_owes : (b n : Moment) (form : Option Form) (first second third : Reading) (w : Work) → HasReadings b.store n.store form first second third → IsSaved b.store n.store w.file
-    → ComesTo form first second third w → Owes b n form w.outcome
-work_owes b n None first second third w r saved e = owes_as b n None w _ e (λ t. (refl, t))
-work_owes b n (Some (Asm d s i)) first second third w r saved e = asm_owes b n d s i first second w r saved e
-work_owes b n (Some (Run d i x k)) first second third w r saved e = run_owes b n d i x k first second third w r e
-work_owes b n (Some (Check d)) first second third w r saved e = other_owes b n (Some (Check d)) w (λ t. inl (tt, t)) e
-work_owes b n (Some (Dis d i)) first second third w r saved e = other_owes b n (Some (Dis d i)) w (λ t. inl (tt, t)) e
-work_owes b n (Some (Cc d c i)) first second third w r saved e = other_owes b n (Some (Cc d c i)) w (λ t. inl (tt, t)) e
-work_owes b n (Some (Ceval d c x k)) first second third w r saved e = other_owes b n (Some (Ceval d c x k)) w (λ t. inl (tt, t)) e
-work_owes b n (Some (Demo k)) first second third w r saved e = other_owes b n (Some (Demo k)) w (λ t. inl (tt, t)) e
+-- the whole text of what is told was taken
+kept_owes : (b n : Moment) (form : Option Form) (xs : List Asked) (w : Work) → CallsBehind b n 0 xs w → HaveCauses b.store n.store xs → Leaves b.store n.store w.file
+    → ComesTo form xs w ⊎ (w ≡ telling starved) → Owes b n form w.reply
+kept_owes b n form xs w calls c saved (inl g) = work_owes b n form xs w calls c saved g
+kept_owes b n form xs w calls c saved (inr e) = subst (λ x. Owes b n form x.reply) (sym e) (λ t. tt)
 
-filed_owes : (b n : Moment) (form : Option Form) (w : Work) (o : Outcome) → (IsSaved b.store n.store w.file → Owes b n form w.outcome) → Filed b.store n.store w o → Owes b n form o
-filed_owes b n form w o h (answers.Kept saved e) = subst (Owes b n form) (sym e) (h saved)
-filed_owes b n form w o h (answers.Failed f is others rose e) = subst (Owes b n form) (sym e) (λ t. inr rose)
-filed_owes b n form w o h (answers.Starved f is held later e) = subst (Owes b n form) (sym e) (λ t. tt)
+filed_owes : (b n : Moment) (m : Store) (form : Option Form) (w : Work) (o : Reply) → Later b.store m → (Leaves b.store n.store w.file → Owes b n form w.reply)
+    → Filed m n.store w o → Owes b n form o
+filed_owes b n m form w o l h (Kept saved e) = subst (Owes b n form) (sym e) (h (leaves_of b.store m n.store w.file l saved))
+filed_owes b n m form w o l h (works.Failed f is others call rose e) = subst (Owes b n form) (sym e) (λ t. inr (omega (arith, rose, l.write_faults)))
+filed_owes b n m form w o l h (works.Starved f is held call e) = subst (Owes b n form) (sym e) (λ t. tt)
 
-told_cause : (b n : Moment) (form : Option Form) (o : Outcome) (s : Status) → Owes b n form o → Told o b.taken n.taken b.faults n.faults s → HasCause b n form s
-told_cause b n form o s h (Whole t e) = subst (HasCause b n form) (sym e) (h t)
-told_cause b n form o s h (Cut t rose e) = subst (HasCause b n form) (sym e) (inl rose)
-told_cause b n form o s h (Starved t e) = subst (HasCause b n form) (sym e) tt
+-- ---- each status
 
-pub cause_of : (b n : Moment) (form : Option Form) (s : Status) → Answers b n form s → HasCause b n form s
-cause_of b n form s a =
-    told_cause b n form a.outcome s (filed_owes b n form a.work a.outcome (λ saved. work_owes b n form a.first a.second a.third a.work a.readings saved a.comes) a.filed) a.told
+status_owes : (b n : Moment) (form : Option Form) (o : Reply) (status : Status) → Owes b n form o → Told o b.taken n.taken b.faults n.faults status → HasCause b n form status
+status_owes b n form o status h (Whole t kept e) = subst (HasCause b n form) (sym e) (h t)
+status_owes b n form o status h (Cut t rose e) = subst (HasCause b n form) (sym e) (inl rose)
+status_owes b n form o status h (Starved t kept e) = subst (HasCause b n form) (sym e) tt
+status_owes b n form o status h (CutStarved t rose e) = subst (HasCause b n form) (sym e) (inl rose)
+
+pub cause_of : (b n : Moment) (form : Option Form) (status : Status) → Answers b n form status → HasCause b n form status
+cause_of b n form status a =
+    let l = reads_later b.store a.read a.asked a.reads in
+    let k = counted_by a.read n.store a.work a.told a.filed in
+    status_owes b n form a.told status
+    (filed_owes b n a.read form a.work a.told l
+    (λ saved. kept_owes b n form a.asked a.work (λ e. calls_without b.store a.read n.store a.asked a.work a.told a.reads a.filed e)
+    (causes b.store a.read n.store a.asked (omega (arith, k.read_faults)) (omega (arith, k.absents)) a.reads) saved a.comes)
+    a.filed)
+    a.puts
 
 -- ---- no form
 
-told_ends : (o : Outcome) (a b : Option (List ℕ)) (f g : ℕ) (s : Status) → Told o a b f g s → EndsIn o.status s
-told_ends o a b f g s (Whole x e) = inl e
-told_ends o a b f g s (Cut x r e) = inr (inl e)
-told_ends o a b f g s (Starved x e) = inr (inr e)
+told_ends : (o : Reply) (t u : Option (List ℕ)) (f g : ℕ) (s : Status) → Told o t u f g s → EndsIn o.status s
+told_ends o t u f g s (Whole x kept e) = inl e
+told_ends o t u f g s (Cut x rose e) = inr (inl e)
+told_ends o t u f g s (Starved x kept e) = inr (inr e)
+told_ends o t u f g s (CutStarved x rose e) = inr (inl e)
+
+memory_ends : (wanted s : Status) → EndsIn statuses.Memory s → EndsIn wanted s
+memory_ends wanted s (inl e) = inr (inr e)
+memory_ends wanted s (inr e) = inr e
 
 -- without a file, what the work comes to is told
-pub told_work : (b n : Moment) (w : Work) (o : Outcome) → w.file ≡ None → Filed b.store n.store w o → o ≡ w.outcome
-told_work b n w o e (answers.Kept saved f) = f
-told_work b n w o e (answers.Failed f is others rose x) = absurd (cc (e, is))
-told_work b n w o e (answers.Starved f is held later x) = absurd (cc (e, is))
+told_work : (m n : Store) (w : Work) (o : Reply) → w.file ≡ None → Filed m n w o → o ≡ w.reply
+told_work m n w o e (Kept saved f) = f
+told_work m n w o e (works.Failed f is others call rose x) = absurd (cc (e, is))
+told_work m n w o e (works.Starved f is held call x) = absurd (cc (e, is))
+
+usage_by : (b n : Moment) (s : Status) (a : Answers b n None s) → ComesTo None a.asked a.work ⊎ (a.work ≡ telling starved) → EndsIn statuses.Usage s
+usage_by b n s a (inl e) =
+    let o = told_work a.read n.store a.work a.told (ap (λ k. k.file) e.is) a.filed in
+    subst (λ t. EndsIn t s) (ap (λ p. p.status) (o ∙ ap (λ k. k.reply) e.is)) (told_ends a.told b.taken n.taken b.faults n.faults s a.puts)
+usage_by b n s a (inr e) =
+    let o = told_work a.read n.store a.work a.told (ap (λ k. k.file) e) a.filed in
+    memory_ends statuses.Usage s (subst (λ t. EndsIn t s) (ap (λ p. p.status) (o ∙ ap (λ k. k.reply) e)) (told_ends a.told b.taken n.taken b.faults n.faults s a.puts))
 
 pub usage_of : (b n : Moment) (form : Option Form) (s : Status) → Answers b n form s → IsUsage form s
-usage_of b n form s a e =
-    let w : a.work ≡ telling (outcome statuses.Usage usage_line) = subst (λ f. ComesTo f a.first a.second a.third a.work) e a.comes in
-    let o = told_work b n a.work a.outcome (ap (λ k. k.file) w) a.filed in
-    subst (λ t. EndsIn t s) (ap (λ p. p.status) (o ∙ ap (λ k. k.outcome) w)) (told_ends a.outcome b.taken n.taken b.faults n.faults s a.told)
+usage_of b n form s a e = let c = subst (λ f. Answers b n f s) e a in usage_by b n s c c.comes

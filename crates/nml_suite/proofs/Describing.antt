@@ -1,21 +1,24 @@
 -- A description from its tree.
-use Rattle.std.proofs.Common.{inl, inr, List, ℕ, Result, Ok, Err}
+use Rattle.std.proofs.Common.{◌≡◌, inl, inr, List, ℕ, Result, Ok, Err, subst, sym, ap, ◌∙◌}
+use Rattle.std.specs.Prelude.{Bool, true, false, if◌then◌else◌}
+use Rattle.nml_tree.specs.declared.fault.DescFault.{DescFault}
+use Rattle.nml_tree.specs.declared.fault.DescFault.TheVariants as faults
 use Rattle.nml_tree.specs.declared.rules.Plain.{Plain}
 use Rattle.nml_tree.specs.declared.tree.Desc.{Desc}
-use Rattle.nml_suite.specs.Refused.{IsDescribed, IsSpelled, IsDescribedBy}
+use Rattle.nml_suite.specs.Described.{HasFault, is_memory}
+use Rattle.nml_suite.specs.Refusing.{refused, IsDescribed, IsReadAs, IsDescribedBy}
+use Rattle.nml_suite.specs.Reply.{Reply, starved, description_fault}
 use Rattle.nml_suite.specs.declared.purpose.Purpose.{Purpose}
 use Rattle.nml_suite.specs.declared.refusal.Refusal.{Refusal}
-use Rattle.nml_suite.proofs.OneFault.{not_described}
 
 -- bytes with a fault are no description
-pub not_spelled : (purpose : Purpose) (name bytes : List ℕ) (e : Refusal) → IsSpelled name bytes (Err e) → IsDescribed purpose name bytes (Err e)
-not_spelled purpose name bytes e (inl wants) = inl wants
-not_spelled purpose name bytes e (inr x) = inr (inl x)
+pub not_accepted : (purpose : Purpose) (name bytes : List ℕ) (e : Refusal) → IsReadAs name bytes (Err e) → IsDescribed purpose name bytes (Err e)
+not_accepted purpose name bytes e (inl wants) = inl wants
+not_accepted purpose name bytes e (inr x) = inr (inl x)
 
--- bytes with a tree are the description that it is
-pub spelled : (purpose : Purpose) (name bytes : List ℕ) (t : Desc) (r : Result Plain Refusal) → IsSpelled name bytes (Ok t)
+-- bytes that are accepted are the description that their tree is
+pub accepted : (purpose : Purpose) (name bytes : List ℕ) (t : Desc) (r : Result Plain Refusal) → IsReadAs name bytes (Ok t)
     → IsDescribedBy purpose name t r → IsDescribed purpose name bytes r
-spelled purpose name bytes t (Ok p) s d = record { tree = t; is = s.0; no_float = s.1; plain = d.plain; built = d.built }
-spelled purpose name bytes t (Err e) s (inl wants) = inl wants
-spelled purpose name bytes t (Err e) s (inr x) =
-    inr (inr (record { tree = t; is_tree = s.0; no_float = s.1; none = λ d h. not_described purpose bytes t d s.0 x.1 h; is = x.0 }))
+accepted purpose name bytes t (Ok p) a d = record { tree = t; accepted = a; built = d }
+accepted purpose name bytes t (Err e) a (inl wants) = inl wants
+accepted purpose name bytes t (Err e) a (inr x) = inr (inr (record { tree = t; accepted = a; none = x.1; is = x.0 }))

@@ -4,7 +4,7 @@ use Rattle.std.proofs.lemmas.List.{take_more, take-append-drop}
 use Rattle.std.specs.Prelude.{Result, Ok, Err, OnErr}
 use Rattle.nk_outside.specs.Taken.{Took, TookFront}
 use Rattle.nk_outside.proofs.Pieces.{front_after, front_of_first}
-use Rattle.nml_suite.specs.Outcome.{word_line, word_lines}
+use Rattle.nml_suite.specs.Reply.{word_line, word_lines}
 
 lines_append : (w : ℕ) (xs ys : List ℕ) → word_lines w (xs ++ ys) ≡ word_lines w xs ++ word_lines w ys
 lines_append w [] ys = refl

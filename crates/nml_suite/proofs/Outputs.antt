@@ -1,11 +1,9 @@
 -- What was put of a run: its outputs so far, one step more, and how it ends.
 use Rattle.std.proofs.Common.{◌≡◌, ◌<◌, ◌≤◌, ◌+◌, ◌-◌, arith, ℕ, suc, List, [], ◌∷◌, ◌++◌, Option, Some, None, ℤ, refl, sym, ap, ◌∙◌, subst, append_assoc, append-nil}
 use Rattle.std.specs.Option.{option_to_list}
-use Rattle.std.specs.Prelude.{IfSome, Err, IsErrOf}
-use Rattle.std.specs.Result.{result_map_both}
+use Rattle.std.specs.Prelude.{IfSome, Err}
 use Rattle.nk_outside.specs.Taken.{Took, TookFront}
 use Rattle.nk_outside.proofs.Pieces.{took_append, front_after, front_of_first}
-use Rattle.nk_outside.specs.Count.{HasCause}
 use Rattle.nk_outside.specs.declared.files.WriteFault.{WriteFault}
 use Rattle.nk_outside.specs.declared.files.WriteFault.TheVariants as faults
 use Rattle.nml_tree.specs.Description.{Description, description_of}
@@ -15,9 +13,10 @@ use Rattle.bit_sim.specs.Machine as machine
 use Rattle.bit_sim.specs.declared.step.Step.{Step}
 use Rattle.bit_sim.specs.declared.step.Step.TheVariants as steps
 use Rattle.bit_sim.proofs.HasOutcome.{step_is_no_want, has_outcome}
-use Rattle.nml_suite.specs.Ended.{Ends}
-use Rattle.nml_suite.specs.Outcome.{output_line, output_lines, stop_line, stop_status, told_run}
-use Rattle.nml_suite.specs.Running.{HasPut, HasCutPut, HasRun, HasCutRun, TellsRun, opened, output_text, put_by, stop_after}
+use Rattle.nml_suite.specs.Ended.{CountsPuts, Ends}
+use Rattle.nml_suite.specs.Reply.{output_line, output_lines, stop_line, stop_status, told_run}
+use Rattle.nml_suite.specs.Running.{PutsOutputs, PutsCutOutputs, PutsRun, PutsCutRun, TellsRun, opened, output_text, put_by, stop_after}
+use Rattle.nml_suite.specs.Told.{Whole}
 use Rattle.nml_suite.specs.declared.ready.Ready.{Ready}
 use Rattle.nml_suite.specs.declared.status.Status.{Status}
 use Rattle.nml_suite.proofs.Telling.{told_by}
@@ -123,7 +122,7 @@ one_more start now next bound left a b c step f s e t =
     }
 
 -- after the last step of the bound
-pub put_all : (start now : Simulator) (bound : ℕ) (a b : Option (List ℕ)) → SoFar start now bound 0 a b → HasPut start bound a b machine.Running
+pub put_all : (start now : Simulator) (bound : ℕ) (a b : Option (List ℕ)) → SoFar start now bound 0 a b → PutsOutputs start bound a b machine.Running
 put_all start now bound a b f = record {
   out = f.out;
   runs = subst (λ (t : List ℤ). Runs start.description start.words bound start.machine (record { out = t; stop = machine.Running })) (append-nil f.out)
@@ -133,7 +132,7 @@ put_all start now bound a b f = record {
 
 -- after a step with which the run stops, and the line of its output
 pub put_to_stop : (start now next : Simulator) (bound left : ℕ) (a b c : Option (List ℕ)) (step : Step) (stop : machine.Stop) → SoFar start now bound (suc left) a b
-    → Stepped now next step → Some stop ≡ stop_after step → Took b c (output_text (put_by step)) → HasPut start bound a c stop
+    → Stepped now next step → Some stop ≡ stop_after step → Took b c (output_text (put_by step)) → PutsOutputs start bound a c stop
 put_to_stop start now next bound left a b c step stop f s e t = record {
   out = f.out ++ option_to_list (put_by step);
   runs =
@@ -167,7 +166,7 @@ rest_of start now next bound left a b (steps.BadWord place) f p s =
 
 -- a front of the line of a step's output was taken
 pub put_cut : (start now next : Simulator) (bound left : ℕ) (a b c : Option (List ℕ)) (step : Step) → IsPlain start.description → SoFar start now bound (suc left) a b
-    → Stepped now next step → TookFront b c (output_text (put_by step)) → HasCutPut start bound a c
+    → Stepped now next step → TookFront b c (output_text (put_by step)) → PutsCutOutputs start bound a c
 put_cut start now next bound left a b c step p f s t =
     let is = step_at start now next bound (suc left) a b step f s in
     let o = rest_of start now next bound left a b step f p is in
@@ -185,15 +184,15 @@ pub is_opened : (s : Simulator) (r : Ready) → s.description ≡ description_of
 is_opened s r d w m = λ i. record { description = d i; words = w i; machine = m i }
 
 -- nothing was put of a run
-pub cut_before : (s : Simulator) (bound : ℕ) (a : Option (List ℕ)) → IsPlain s.description → HasCutRun s bound a a
+pub cut_before : (s : Simulator) (bound : ℕ) (a : Option (List ℕ)) → IsPlain s.description → PutsCutRun s bound a a
 cut_before s bound a p = let o = has_outcome s.description s.words bound s.machine p in record { run = o.0; runs = o.1; took = front_of_nothing a (told_run o.0).text }
 
 -- a front of the lines of the outputs alone
-pub cut_in_outputs : (s : Simulator) (bound : ℕ) (a b : Option (List ℕ)) → HasCutPut s bound a b → HasCutRun s bound a b
+pub cut_in_outputs : (s : Simulator) (bound : ℕ) (a b : Option (List ℕ)) → PutsCutOutputs s bound a b → PutsCutRun s bound a b
 cut_in_outputs s bound a b h = record { run = h.run; runs = h.runs; took = front_of_first a b (output_lines h.run.out) (stop_line h.run.stop) h.took }
 
 -- the lines of the outputs, and a front of the line that tells how the run stopped
-pub cut_in_stop : (s : Simulator) (bound : ℕ) (a b c : Option (List ℕ)) (stop : machine.Stop) → HasPut s bound a b stop → TookFront b c (stop_line stop) → HasCutRun s bound a c
+pub cut_in_stop : (s : Simulator) (bound : ℕ) (a b c : Option (List ℕ)) (stop : machine.Stop) → PutsOutputs s bound a b stop → TookFront b c (stop_line stop) → PutsCutRun s bound a c
 cut_in_stop s bound a b c stop h t = record {
   run = record { out = h.out; stop = stop };
   runs = h.runs;
@@ -201,8 +200,8 @@ cut_in_stop s bound a b c stop h t = record {
 }
 
 -- the lines of the outputs, and the line that tells how the run stopped
-pub put_whole : (s : Simulator) (bound : ℕ) (a b c : Option (List ℕ)) (stop : machine.Stop) (status : Status) → HasPut s bound a b stop → Took b c (stop_line stop)
-    → status ≡ stop_status stop → HasRun s bound a c status
+pub put_whole : (s : Simulator) (bound : ℕ) (a b c : Option (List ℕ)) (stop : machine.Stop) (status : Status) → PutsOutputs s bound a b stop → Took b c (stop_line stop)
+    → status ≡ stop_status stop → PutsRun s bound a c status
 put_whole s bound a b c stop status h t e = record {
   run = record { out = h.out; stop = stop };
   runs = h.runs;
@@ -215,12 +214,20 @@ ends_alike : (fault : WriteFault) (x y : Status) (b c : Option (List ℕ)) (g h 
 ends_alike faults.Failed x y b c g h s e = e
 ends_alike faults.Memory x y b c g h s e = e
 
+-- what a fault does to the count doesn't hang on what it stands for
+counts_alike : {A B : Type 0} (fault : WriteFault) (f g : ℕ) → CountsPuts {A} f g (Err fault) → CountsPuts {B} f g (Err fault)
+counts_alike faults.Failed f g c = c
+counts_alike faults.Memory f g c = c
+
 -- a run whose text was cut is told
-pub tells_cut : (s : Simulator) (bound : ℕ) (a b c : Option (List ℕ)) (f g h : ℕ) (fault : WriteFault) (any status : Status) → HasCutRun s bound a b
-    → HasCause f g (IsErrOf {T = Status} (Err fault) faults.Failed) → Ends (Err fault) any b c g h status → TellsRun s bound a c f h status
-tells_cut s bound a b c f g h fault any status r cause e = record {
+pub tells_cut : (s : Simulator) (bound : ℕ) (a b c : Option (List ℕ)) (f g h : ℕ) (fault : WriteFault) (any status : Status) → PutsCutRun s bound a b
+    → CountsPuts {Status} f g (Err fault) → Ends (Err fault) any b c g h status → TellsRun s bound a c f h status
+tells_cut s bound a b c f g h fault any status r counts e = record {
   run = r.run;
   runs = r.runs;
-  told = told_by (told_run r.run) a b c f g h (Err fault) status tt r.took
-      (record { later = cause.later; rose = λ is. cause.rose (ap (result_map_both (λ u. status) (λ x. x)) is) }) (ends_alike fault any (told_run r.run).status b c g h status e);
+  told = told_by (told_run r.run) a b c f g h (Err fault) status tt r.took (counts_alike fault f g counts) (ends_alike fault any (told_run r.run).status b c g h status e);
 }
+
+-- a run whose text was taken whole is told
+pub tells_whole : (s : Simulator) (bound : ℕ) (a b : Option (List ℕ)) (f g : ℕ) (status : Status) → PutsRun s bound a b status → g ≡ f → TellsRun s bound a b f g status
+tells_whole s bound a b f g status r counts = record { run = r.run; runs = r.runs; told = Whole r.took counts r.is }

@@ -1,12 +1,14 @@
 -- How the two commands compose: what `run` does with the image that `asm` wrote.
-use Rattle.std.specs.Prelude.{◌≡◌, ℕ, List, Some, None}
+use Rattle.std.specs.Prelude.{◌≡◌, ℕ, List, [], ◌∷◌, Some, None}
 use Rattle.nml_tree.specs.Description.{Description}
 use Rattle.asm_tool.specs.Assembly.{Assembles}
 use Rattle.asm_tool.specs.PlainText.{lines}
 use Rattle.bit_sim.specs.Machine.{Runs, beginning}
 use Rattle.bit_sim.specs.Machine as machine
-use Rattle.nml_suite.specs.Coming.{Describes, AsmComesTo, first_input}
-use Rattle.nml_suite.specs.Outcome.{Work, Written, telling, told_run}
+use Rattle.nml_suite.specs.Coming.{AsmComesTo, first_input}
+use Rattle.nml_suite.specs.Described.{Describes}
+use Rattle.nml_suite.specs.Reply.{told_run}
+use Rattle.nml_suite.specs.Work.{Work, Written, telling}
 use Rattle.nml_suite.specs.Reading.{Got}
 use Rattle.nml_suite.specs.declared.purpose.Purpose.TheVariants as purposes
 
@@ -16,7 +18,7 @@ pub record Makes (bytes text : List ℕ) (file : Written) : Type 0 where
   pub source : List ℕ
   pub image : List ℕ
   pub work : Work
-  pub comes : AsmComesTo description source image (Got bytes) (Got text) work
+  pub comes : AsmComesTo description source image ((description, Got bytes) ∷ (source, Got text) ∷ []) work
   pub wrote : work.file ≡ Some file
 
 -- each line of an input is blank

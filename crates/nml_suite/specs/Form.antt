@@ -1,4 +1,4 @@
--- The forms of the words: a command's name, and what it is called with.
+-- The forms of the words: a command's name, and what it is called with; and the files that it names.
 use Rattle.std.specs.Prelude.{ℕ, Bool, ◌&&◌, List, [], ◌∷◌, Option, Some, None, codes, if◌then◌else◌, nat_lt, nat_le, length}
 use Rattle.std.specs.Char.{is_ascii_digit}
 use Rattle.std.specs.List.{list_all}
@@ -46,3 +46,34 @@ form_of (name ∷ a ∷ b ∷ c ∷ n ∷ []) =
     else if text_eq name (codes "ceval") && is_file a && is_file b && is_file c && is_bound n then Some (Ceval a b c (digits_value 10 n))
     else None
 form_of _ = None
+
+-- ---- the files that the words name
+
+-- to be read, in this order
+abbrev pub files_to_read : Form → List (List ℕ)
+files_to_read (Check d) = d ∷ []
+files_to_read (Asm d s i) = d ∷ s ∷ []
+files_to_read (Dis d i) = d ∷ i ∷ []
+files_to_read (Run d i x steps) = d ∷ i ∷ x ∷ []
+files_to_read (Cc d c i) = d ∷ c ∷ []
+files_to_read (Ceval d c x turns) = d ∷ c ∷ x ∷ []
+files_to_read (Demo size) = []
+
+-- to be written
+abbrev pub file_to_write : Form → Option (List ℕ)
+file_to_write (Check d) = None
+file_to_write (Asm d s i) = Some i
+file_to_write (Dis d i) = None
+file_to_write (Run d i x steps) = None
+file_to_write (Cc d c i) = Some i
+file_to_write (Ceval d c x turns) = None
+file_to_write (Demo size) = None
+
+-- the same of any words: none where they match no form
+abbrev pub named_to_read : Option Form → List (List ℕ)
+named_to_read None = []
+named_to_read (Some form) = files_to_read form
+
+abbrev pub named_to_write : Option Form → Option (List ℕ)
+named_to_write None = None
+named_to_write (Some form) = file_to_write form

@@ -1,9 +1,17 @@
--- What the read of a file answered, and its cause.
-use Rattle.std.specs.Prelude.{◌≡◌, ◌≤◌, ◌+◌, ℕ, List, Option}
-use Rattle.nk_outside.specs.Count.{Counts, Rose}
+-- What the read of a file answered and its cause, and a row of reads one after the other.
+use Rattle.std.specs.Prelude.{◌≡◌, ◌≤◌, ℕ, List, [], ◌∷◌, Option}
+use Rattle.nk_outside.specs.Count.{Counts, counted, Rose}
 use Rattle.nk_outside.specs.Held.{Names, Reads, Lacks, IsTooLong}
 
--- A file stays unread where an earlier refusal comes, and for want of memory.
+-- the files: what they hold, and their counts
+pub record Store : Type 0 where
+  pub held : Option Names
+  pub counts : Counts
+
+abbrev pub store : Option Names → Counts → Store
+store held counts = record { held = held; counts = counts }
+
+-- Memory was wanted where a file stays unread.
 pub data Reading : Type 0 where
   Got : List ℕ → Reading
   Absent : Reading
@@ -11,13 +19,13 @@ pub data Reading : Type 0 where
   TooLong : Reading
   Unread : Reading
 
--- no bytes came
+-- no bytes came, and not for want of memory
 abbrev pub IsShort : Reading → Type 0
 IsShort (Got bytes) = ⊥
 IsShort Absent = Unit {0}
 IsShort Failed = Unit {0}
 IsShort TooLong = Unit {0}
-IsShort Unread = Unit {0}
+IsShort Unread = ⊥
 
 -- the cause of what was answered for the name, between two moments with these counts
 abbrev pub HasReading : Option Names → Counts → Counts → List ℕ → Reading → Type 0
@@ -27,25 +35,20 @@ HasReading held before now name Failed = Rose before.read_faults now.read_faults
 HasReading held before now name TooLong = IsTooLong held name
 HasReading held before now name Unread = Unit {0}
 
--- how many calls there may be, one for each of three files: none behind a file that gave no bytes
-abbrev pub asked_behind : Reading → ℕ
-asked_behind (Got bytes) = 3
-asked_behind Absent = 2
-asked_behind Failed = 2
-asked_behind TooLong = 2
-asked_behind Unread = 3
+-- One read: it has the cause of its answer, is one call, changes no file, and no count falls.
+pub record IsRead (before now : Store) (name : List ℕ) (reading : Reading) : Type 0 where
+  pub cause : HasReading before.held before.counts now.counts name reading
+  pub calls : now.counts.calls ≡ counted before.counts.calls
+  pub held : now.held ≡ before.held
+  pub read_faults : before.counts.read_faults ≤ now.counts.read_faults
+  pub absents : before.counts.absents ≤ now.counts.absents
+  pub write_faults : now.counts.write_faults ≡ before.counts.write_faults
 
-abbrev pub asked : Reading → Reading → ℕ
-asked (Got bytes) second = asked_behind second
-asked Absent second = 1
-asked Failed second = 1
-asked TooLong second = 1
-asked Unread second = 3
+-- a file that was asked for: its name, and what the read of it answered
+abbrev pub Asked : Type 0
+Asked = List ℕ × Reading
 
--- The files are as before, no count falls, and at most so many calls were made.
-pub record LeavesFiles (held held' : Option Names) (before now : Counts) (calls : ℕ) : Type 0 where
-  pub same : held' ≡ held
-  pub made : now.calls ≤ before.calls + calls
-  pub read_later : before.read_faults ≤ now.read_faults
-  pub absent_later : before.absents ≤ now.absents
-  pub writes : now.write_faults ≡ before.write_faults
+-- These files were read one after the other, and nothing else was done to the files.
+abbrev pub AreRead : Store → Store → List Asked → Type 0
+AreRead before now [] = now ≡ before
+AreRead before now (one ∷ more) = (next : Store) × IsRead before next one.0 one.1 × AreRead next now more

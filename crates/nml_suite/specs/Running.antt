@@ -7,7 +7,7 @@ use Rattle.bit_sim.specs.Machine.{Outcome, Runs, Simulator, beginning}
 use Rattle.bit_sim.specs.Machine as machine
 use Rattle.bit_sim.specs.declared.step.Step.{Step}
 use Rattle.bit_sim.specs.declared.step.Step.TheVariants as steps
-use Rattle.nml_suite.specs.Outcome.{output_line, output_lines, told_run}
+use Rattle.nml_suite.specs.Reply.{output_line, output_lines, told_run}
 use Rattle.nml_suite.specs.Seen.{stop_of}
 use Rattle.nml_suite.specs.Told.{Told}
 use Rattle.nml_suite.specs.declared.ready.Ready.{Ready}
@@ -36,37 +36,37 @@ output_text None = []
 output_text (Some z) = output_line z
 
 -- the run of at most so many steps stops so, and a line for each of its outputs was taken
-pub record HasPut (s : Simulator) (bound : ℕ) (old new : Option (List ℕ)) (stop : machine.Stop) : Type 0 where
+pub record PutsOutputs (s : Simulator) (bound : ℕ) (old new : Option (List ℕ)) (stop : machine.Stop) : Type 0 where
   pub out : List ℤ
   pub runs : Runs s.description s.words bound s.machine (record { out = out; stop = stop })
   pub took : Took old new (output_lines out)
 
 -- a front of the lines for the outputs of the run was taken
-pub record HasCutPut (s : Simulator) (bound : ℕ) (old new : Option (List ℕ)) : Type 0 where
+pub record PutsCutOutputs (s : Simulator) (bound : ℕ) (old new : Option (List ℕ)) : Type 0 where
   pub run : Outcome
   pub runs : Runs s.description s.words bound s.machine run
   pub took : TookFront old new (output_lines run.out)
 
 abbrev pub IsPut : Simulator → ℕ → Option (List ℕ) → Option (List ℕ) → Result Stop WriteFault → Type 0
-IsPut s bound old new (Ok stop) = HasPut s bound old new (stop_of stop)
-IsPut s bound old new (Err fault) = HasCutPut s bound old new
+IsPut s bound old new (Ok stop) = PutsOutputs s bound old new (stop_of stop)
+IsPut s bound old new (Err fault) = PutsCutOutputs s bound old new
 
 -- the run's text was taken, and this is its status
-pub record HasRun (s : Simulator) (bound : ℕ) (old new : Option (List ℕ)) (status : Status) : Type 0 where
+pub record PutsRun (s : Simulator) (bound : ℕ) (old new : Option (List ℕ)) (status : Status) : Type 0 where
   pub run : Outcome
   pub runs : Runs s.description s.words bound s.machine run
   pub took : Took old new (told_run run).text
   pub is : status ≡ (told_run run).status
 
 -- a front of the run's text was taken
-pub record HasCutRun (s : Simulator) (bound : ℕ) (old new : Option (List ℕ)) : Type 0 where
+pub record PutsCutRun (s : Simulator) (bound : ℕ) (old new : Option (List ℕ)) : Type 0 where
   pub run : Outcome
   pub runs : Runs s.description s.words bound s.machine run
   pub took : TookFront old new (told_run run).text
 
 abbrev pub IsRun : Simulator → ℕ → Option (List ℕ) → Option (List ℕ) → Result Status WriteFault → Type 0
-IsRun s bound old new (Ok status) = HasRun s bound old new status
-IsRun s bound old new (Err fault) = HasCutRun s bound old new
+IsRun s bound old new (Ok status) = PutsRun s bound old new status
+IsRun s bound old new (Err fault) = PutsCutRun s bound old new
 
 -- the text of the run was told
 pub record TellsRun (s : Simulator) (bound : ℕ) (old new : Option (List ℕ)) (before now : ℕ) (status : Status) : Type 0 where

@@ -3,12 +3,15 @@ use Rattle.std.specs.Prelude.{◌≡◌, [], ◌∷◌, Some, None, true, false,
 use Rattle.std.specs.Fmt.{digits}
 use Rattle.nml_tree.specs.SampleMachine as sample
 use Rattle.nml_tree.specs.declared.fault.DescFault.TheVariants as faults
+use Rattle.nml_tree.specs.declared.fault.Root.TheVariants as roots
 use Rattle.image_file.specs.File.{file}
 use Rattle.asm_tool.specs.PlainText.{lines}
 use Rattle.bit_sim.specs.Sample as runs
-use Rattle.nml_suite.specs.Coming.{RunsTo, Input, Ran, first_input, image_file, is_built, picture}
-use Rattle.nml_suite.specs.Form.{Asm, Run, Demo, form_of}
-use Rattle.nml_suite.specs.Outcome.{description_fault, outcome, output_lines, telling, word_lines}
+use Rattle.nml_suite.specs.Coming.{RunsTo, Input, Ran, first_input, written_image, picture}
+use Rattle.nml_suite.specs.Described.{is_built}
+use Rattle.nml_suite.specs.Form.{Asm, Run, Demo, form_of, files_to_read, file_to_write}
+use Rattle.nml_suite.specs.Reply.{description_fault, reply, output_lines, word_lines}
+use Rattle.nml_suite.specs.Work.{telling}
 use Rattle.nml_suite.specs.declared.purpose.Purpose.TheVariants as purposes
 use Rattle.nml_suite.specs.declared.status.Status.TheVariants as statuses
 
@@ -34,6 +37,13 @@ too_large_demo = refl
 no_words : form_of [] ≡ None
 no_words = refl
 
+-- the files of a command, in the order in which they are read, and the one that it writes
+reads_three : files_to_read (Run (codes "d") (codes "i") (codes "x") 10) ≡ codes "d" ∷ codes "i" ∷ codes "x" ∷ []
+reads_three = refl
+
+writes_one : file_to_write (Asm (codes "m0") (codes "s") (codes "i")) ≡ Some (codes "i")
+writes_one = refl
+
 -- ten bits are three digits
 two_words : word_lines 10 (0x105 ∷ 0 ∷ []) ≡ codes "105\n000\n"
 two_words = refl
@@ -54,6 +64,20 @@ float_line : (description_fault (codes "m") (faults.Float 9)).text ≡ codes "m:
 unfolding digits
 float_line = refl
 
+-- the texts of two instructions stand in quotes, and their word in hexadecimal
+same_image_line : (description_fault (codes "m") (faults.SameImage (codes "ldi 5") (codes "five") (record { width = 10; value = 0x105 }))).text ≡ codes "m: N13 SameImage \"ldi 5\" \"five\" 105\n"
+same_image_line = refl
+
+same_syntax_line : (description_fault (codes "m") (faults.SameSyntax (record { width = 10; value = 0x300 }) (record { width = 10; value = 0x380 }) (codes "beq"))).text ≡ codes "m: N14 SameSyntax 300 380 \"beq\"\n"
+same_syntax_line = refl
+
+shapes_line : (description_fault (codes "m5") (faults.Shapes 4097 6 0)).text ≡ codes "m5: N12 Shapes 4097 6 0\n"
+unfolding digits
+shapes_line = refl
+
+root_line : (description_fault (codes "m") (faults.Root roots.Instruction)).text ≡ codes "m: N11 Root instruction\n"
+root_line = refl
+
 -- rules alone are assembled and not run
 assembles_rules : is_built purposes.Assembling sample.machine ≡ true
 assembles_rules = refl
@@ -65,10 +89,10 @@ runs_machine : is_built purposes.Running sample.running_machine ≡ true
 runs_machine = refl
 
 -- an image is written where there is PC
-no_image : image_file (codes "i") (codes "d") sample.machine runs.words ≡ None
+no_image : written_image (codes "i") (codes "d") sample.machine runs.words ≡ None
 no_image = refl
 
-an_image : image_file (codes "i") (codes "d") sample.running_machine runs.words ≡ Some (record { name = codes "i"; bytes = file (picture (codes "d") sample.running_machine runs.words) })
+an_image : written_image (codes "i") (codes "d") sample.running_machine runs.words ≡ Some (record { name = codes "i"; bytes = file (picture (codes "d") sample.running_machine runs.words) })
 an_image = refl
 
 -- blank lines count, and the first that isn't blank is told
@@ -79,10 +103,10 @@ all_blank : first_input 1 (lines (codes " \t\n\n")) ≡ None
 all_blank = refl
 
 -- `ldi 5`, `outa`, `hlt 2` in at most three steps
-program : RunsTo (codes "x") 3 sample.running_machine runs.words [] (telling (outcome statuses.Stopped (codes "5\nhalted 2\n")))
+program : RunsTo (codes "x") 3 sample.running_machine runs.words [] [] (telling (reply statuses.Stopped (codes "5\nhalted 2\n")))
 unfolding digits
-program = Ran refl (runs.outcome (pos 5 ∷ [])) runs.prints refl
+program = Ran refl (runs.outcome (pos 5 ∷ [])) runs.prints (record { last = refl; is = refl })
 
-refused_input : RunsTo (codes "x") 3 sample.running_machine runs.words (codes "\n7") (telling (outcome statuses.Input (codes "x: Input 2\n")))
+refused_input : RunsTo (codes "x") 3 sample.running_machine runs.words (codes "\n7") [] (telling (reply statuses.Input (codes "x: Input 2\n")))
 unfolding digits
-refused_input = Input 2 refl refl
+refused_input = Input 2 refl (record { last = refl; is = refl })

@@ -3,22 +3,22 @@ use Rattle.std.specs.Prelude.{ℕ}
 use Rattle.nml_suite.specs.declared.status.Status.{Status}
 use Rattle.nml_suite.specs.declared.status.Status.TheVariants as statuses
 
-abbrev pub number_of : Status → ℕ
-number_of statuses.Done = 0
-number_of statuses.Usage = 1
-number_of statuses.Description = 2
-number_of statuses.Source = 3
-number_of statuses.Image = 4
-number_of statuses.NotClosed = 5
-number_of statuses.Words = 6
-number_of statuses.Read = 7
-number_of statuses.Write = 8
-number_of statuses.Memory = 9
-number_of statuses.Stopped = 10
-number_of statuses.Budget = 11
-number_of statuses.Wants = 12
-number_of statuses.NoWord = 13
-number_of statuses.BadWord = 14
-number_of statuses.Input = 15
-number_of statuses.TooLong = 16
-number_of statuses.NotBuilt = 17
+abbrev pub status_number : Status → ℕ
+status_number statuses.Done = 0
+status_number statuses.Usage = 1
+status_number statuses.Description = 2
+status_number statuses.Source = 3
+status_number statuses.Image = 4
+status_number statuses.NotClosed = 5
+status_number statuses.Words = 6
+status_number statuses.Read = 7
+status_number statuses.Write = 8
+status_number statuses.Memory = 9
+status_number statuses.Stopped = 10
+status_number statuses.Budget = 11
+status_number statuses.Wants = 12
+status_number statuses.NoWord = 13
+status_number statuses.BadWord = 14
+status_number statuses.Input = 15
+status_number statuses.TooLong = 16
+status_number statuses.NotBuilt = 17

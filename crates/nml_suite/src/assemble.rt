@@ -1,9 +1,9 @@
-ghost use Rattle.nml_suite.specs.Answer.{store};
-ghost use Rattle.nml_suite.specs.Reading.{LeavesFiles};
-ghost use Rattle.nml_suite.specs.Refused.{IsAssembledText, IsMade, IsStored, LeavesReads, AsmSettles, file_named, settled};
-ghost use Rattle.std.specs.Prelude.{◌≡◌, ◌≤◌, ◌<◌, ◌^◌, ℕ, List, length, IfOk, IsTrue};
+ghost use Rattle.std.specs.Prelude.{◌≡◌, ◌≤◌, ◌<◌, ◌^◌, ◌∷◌, [], ℕ, List, length, IfOk, IsTrue};
 ghost use Rattle.std.specs.List.{AllByRecursion};
-ghost use Rattle.nml_suite.specs.Coming as spec;
+ghost use Rattle.nml_suite.specs.Coming.{AsmComesTo};
+ghost use Rattle.nml_suite.specs.Described.{has_pc};
+ghost use Rattle.nml_suite.specs.Reading.{store};
+ghost use Rattle.nml_suite.specs.Refusing.{IsAssembledText, IsMade, IsStored, Settles, file_named, settled};
 ghost use Rattle.nml_tree.specs.Description.{description_of};
 ghost use Rattle.nml_tree.specs.IsPlain.{IsPlain, word_width};
 
@@ -33,8 +33,7 @@ pub fn assemble<'a, F: Files>(
     description: &'a Text,
     source: &'a Text,
 ) -> Result<Assembled, Refusal<'a>>
-    ensures settles { (image : List ℕ) → AsmSettles (store (F.held files.old) (F.counts files.old)) (store (F.held files.new) (F.counts files.new)) description.now source.now image (settled image result) }
-    ensures files { LeavesFiles (F.held files.old) (F.held files.new) (F.counts files.old) (F.counts files.new) 2 }
+    ensures { (image : List ℕ) → Settles (store (F.held files.old) (F.counts files.old)) (store (F.held files.new) (F.counts files.new)) (description.now ∷ source.now ∷ []) (AsmComesTo description.now source.now image) (settled image result) }
 {
     let bytes = load(alloc, files, description)?;
     let plain = describe(alloc, description, &bytes, Purpose::Assembling)?;
@@ -73,7 +72,7 @@ fn made_of(
 ) -> Result<Assembled, Memory>
     requires plain { IsPlain (description_of plain.now) }
     requires fit { AllByRecursion (λ w. w < 2 ^ word_width (description_of plain.now).rules) words.items }
-    requires count { IsTrue (spec.has_pc (description_of plain.now)) → length words.items ≤ 65536 }
+    requires count { IsTrue (has_pc (description_of plain.now)) → length words.items ≤ 65536 }
     ensures { IfOk result (λ made. IsMade bytes.now (description_of plain.now) words.items made) }
 {
     let image = Image {
@@ -97,8 +96,7 @@ pub fn save<'a, F: Files>(
     name: &'a Text,
     made: &Assembled,
 ) -> Result<(), Refusal<'a>>
-    ensures stored { IsStored (store (F.held files.old) (F.counts files.old)) (store (F.held files.new) (F.counts files.new)) (file_named name.now made.now.file) result }
-    ensures reads { LeavesReads (F.counts files.old) (F.counts files.new) (file_named name.now made.now.file) }
+    ensures { IsStored (store (F.held files.old) (F.counts files.old)) (store (F.held files.new) (F.counts files.new)) (file_named name.now made.now.file) result }
 {
     let Some(bytes) = &made.file else {
         return Ok(());

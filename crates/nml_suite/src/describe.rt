@@ -1,11 +1,12 @@
-ghost use Rattle.std.specs.Prelude.{◌≡◌, ◌≤◌, ◌&&◌, length, nat_eq, is_none, IfOk, IfErr, IsTrue, IsFalse};
+ghost use Rattle.std.specs.Prelude.{◌≡◌, ◌≤◌, ◌&&◌, length, nat_eq, is_none, IfOk, IfErr, IsTrue, IsFalse, if◌then◌else◌};
 ghost use Rattle.std.specs.List.{list_all};
-ghost use Rattle.nml_suite.specs.Coming as spec;
+ghost use Rattle.nml_suite.specs.Described as spec;
 ghost use Rattle.nk_outside.specs.Held.{file_limit};
-ghost use Rattle.nml_suite.specs.Refused.{IsDescribed, IsSpelled, IsDescribedBy, refused};
-ghost use Rattle.nml_suite.specs.Outcome.{not_built_file};
+ghost use Rattle.nml_suite.specs.Refusing.{IsDescribed, IsReadAs, IsDescribedBy, refused};
+ghost use Rattle.nml_suite.specs.Reply.{description_fault, not_built_file, starved};
 ghost use Rattle.nml_tree.specs.Description.{description_of};
 
+use crate::fault::is_memory;
 use crate::purpose::Purpose;
 use crate::refusal::Refusal;
 use nk_base::{Memory, Text};
@@ -24,21 +25,29 @@ pub fn describe<'a>(
     requires { length bytes.now ≤ file_limit }
     ensures { IsDescribed purpose name.now bytes.now result }
 {
-    let tree = spelled(alloc, name, bytes)?;
+    let tree = accepted(alloc, name, bytes)?;
     described(alloc, name, &tree, purpose)
 }
 
-/// The tree that the bytes of the named file spell.
-fn spelled<'a>(alloc: Global, name: &'a Text, bytes: &[u8]) -> Result<Desc, Refusal<'a>>
+/// The tree that the bytes of the named file are accepted as.
+fn accepted<'a>(alloc: Global, name: &'a Text, bytes: &[u8]) -> Result<Desc, Refusal<'a>>
     requires { length bytes.now ≤ file_limit }
-    ensures { IsSpelled name.now bytes.now result }
+    ensures { IsReadAs name.now bytes.now result }
 {
     match read(alloc, bytes) {
         Ok(tree) => Ok(tree),
-        Err(DescFault::Lex { at }) => Err(Refusal::Lex(name, at)),
-        Err(DescFault::Syntax { at }) => Err(Refusal::Syntax(name, at)),
-        Err(DescFault::Float { at }) => Err(Refusal::Float(name, at)),
-        Err(DescFault::Memory) => Err(Refusal::Memory),
+        Err(fault) => Err(refusal_of(name, fault)),
+    }
+}
+
+/// The refusal of the named description for a fault.
+fn refusal_of<'a>(name: &'a Text, fault: DescFault) -> Refusal<'a>
+    ensures { refused result ≡ (if spec.is_memory fault then starved else description_fault name.now fault) }
+{
+    if is_memory(&fault) {
+        Refusal::Memory
+    } else {
+        Refusal::Description(name, fault)
     }
 }
 

@@ -4,6 +4,7 @@
 mod assemble;
 mod command;
 mod describe;
+mod fault;
 mod law;
 mod load;
 mod purpose;
@@ -13,10 +14,8 @@ mod run;
 mod status;
 mod stop;
 mod tell;
-#[cfg(test)]
-mod tests;
 mod top;
 
-pub use law::asm_then_run;
+pub use law::{asm_then_run, one_work, some_work};
 pub use status::Status;
 pub use top::suite;

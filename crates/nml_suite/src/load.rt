@@ -1,5 +1,5 @@
-ghost use Rattle.nml_suite.specs.Reading.{LeavesFiles};
-ghost use Rattle.nml_suite.specs.Refused.{IsLoaded};
+ghost use Rattle.nml_suite.specs.Reading.{store};
+ghost use Rattle.nml_suite.specs.Refusing.{IsLoaded};
 
 use crate::refusal::Refusal;
 use nk_base::Text;
@@ -12,8 +12,7 @@ pub fn load<'a, F: Files>(
     files: &mut F,
     name: &'a Text,
 ) -> Result<Vec<u8>, Refusal<'a>>
-    ensures loaded { IsLoaded (F.held files.old) (F.counts files.old) (F.counts files.new) name.now result }
-    ensures files { LeavesFiles (F.held files.old) (F.held files.new) (F.counts files.old) (F.counts files.new) 1 }
+    ensures { IsLoaded (store (F.held files.old) (F.counts files.old)) (store (F.held files.new) (F.counts files.new)) name.now result }
 {
     match files.read(alloc, name) {
         Ok(bytes) => Ok(bytes),

@@ -1,9 +1,8 @@
 ghost use Rattle.std.specs.Prelude.{◌≡◌, ◌≤◌, ◌<◌, length};
 ghost use Rattle.nk_outside.specs.Held.{file_limit};
-ghost use Rattle.nml_suite.specs.Answer.{store};
 ghost use Rattle.nml_suite.specs.Coming as spec;
-ghost use Rattle.nml_suite.specs.Reading.{LeavesFiles};
-ghost use Rattle.nml_suite.specs.Refused.{IsBlankInput, IsFound, RunSettles};
+ghost use Rattle.nml_suite.specs.Reading.{store};
+ghost use Rattle.nml_suite.specs.Refusing.{IsBlankInput, IsFound, RunSettles};
 ghost use Rattle.nml_tree.specs.Description.{description_of};
 ghost use Rattle.nml_tree.specs.IsPlain.{IsPlain};
 ghost use Rattle.asm_tool.specs.PlainText.{lines};
@@ -35,8 +34,7 @@ pub fn prepare<'a, F: Files>(
     image: &'a Text,
     input: &'a Text,
 ) -> Result<Ready, Refusal<'a>>
-    ensures settles { RunSettles (store (F.held files.old) (F.counts files.old)) (store (F.held files.new) (F.counts files.new)) description.now image.now input.now result }
-    ensures files { LeavesFiles (F.held files.old) (F.held files.new) (F.counts files.old) (F.counts files.new) 3 }
+    ensures { RunSettles (store (F.held files.old) (F.counts files.old)) (store (F.held files.new) (F.counts files.new)) description.now image.now input.now result }
 {
     let bytes = load(alloc, files, description)?;
     let plain = describe(alloc, description, &bytes, Purpose::Running)?;

@@ -1,13 +1,16 @@
 ghost use Rattle.std.specs.Prelude.{◌≡◌, ◌++◌, IfOk, codes};
 ghost use Rattle.std.specs.Fmt.{decimal};
-ghost use Rattle.nml_suite.specs.Refused.{refused};
+ghost use Rattle.nml_suite.specs.Refusing.{refused};
+ghost use Rattle.nml_suite.specs.Reply.{description_fault};
 
 use crate::Status;
+use crate::fault::push_fault;
 use nk_base::{Memory, Text, dec};
+use nml_tree::DescFault;
 use std::alloc::Global;
 
 /// Why a command has no result: want of memory, or what is told of the file of a name.
-#[derive(Clone, Copy)]
+#[derive(Drop)]
 pub enum Refusal<'a> {
     Memory,
     Absent(&'a Text),
@@ -15,12 +18,8 @@ pub enum Refusal<'a> {
     TooLong(&'a Text),
     /// The write of the file failed.
     Unwritten(&'a Text),
-    /// The byte at the place of a description begins no token, or its token is over its limit.
-    Lex(&'a Text, u32),
-    /// No description has the tokens of the bytes up to the place.
-    Syntax(&'a Text, u32),
-    /// The first type `float` of a description stands at the place.
-    Float(&'a Text, u32),
+    /// The file is no description, and why.
+    Description(&'a Text, DescFault),
     NotBuilt(&'a Text),
     /// No instruction has the tokens of the line.
     NoMatch(&'a Text, u64),
@@ -38,8 +37,7 @@ impl Refusal<'_> {
             Refusal::Absent(_) | Refusal::Failed(_) => Status::Read,
             Refusal::TooLong(_) => Status::TooLong,
             Refusal::Unwritten(_) => Status::Write,
-            Refusal::Lex(_, _) | Refusal::Syntax(_, _) | Refusal::Float(_, _) =>
-                Status::Description,
+            Refusal::Description(_, _) => Status::Description,
             Refusal::NotBuilt(_) => Status::NotBuilt,
             Refusal::NoMatch(_, _) => Status::Source,
             Refusal::Input(_, _) => Status::Input,
@@ -56,9 +54,7 @@ impl Refusal<'_> {
             Refusal::Failed(name) => named(alloc, name, b": read failed\n"),
             Refusal::TooLong(name) => named(alloc, name, b": too long\n"),
             Refusal::Unwritten(name) => named(alloc, name, b": write failed\n"),
-            Refusal::Lex(name, at) => numbered(alloc, name, b": N1 Lex ", u64::from(*at)),
-            Refusal::Syntax(name, at) => numbered(alloc, name, b": N2 Syntax ", u64::from(*at)),
-            Refusal::Float(name, at) => numbered(alloc, name, b": N3 Float ", u64::from(*at)),
+            Refusal::Description(name, fault) => faulty(alloc, name, fault),
             Refusal::NotBuilt(name) => named(alloc, name, b": not built\n"),
             Refusal::NoMatch(name, line) => numbered(alloc, name, b": S3 NoMatch ", *line),
             Refusal::Input(name, line) => numbered(alloc, name, b": Input ", *line),
@@ -75,7 +71,17 @@ fn named(alloc: Global, name: &Text, rest: &[u8]) -> Result<Text, Memory>
     Ok(line)
 }
 
-/// A name, what stands behind it, and a number: that of a line, or a place.
+/// A name, and the fault of the description that has it.
+fn faulty(alloc: Global, name: &Text, fault: &DescFault) -> Result<Text, Memory>
+    ensures { IfOk result (λ t. t ≡ (description_fault name.now fault.now).text) }
+{
+    let mut line = named(alloc, name, b": ")?;
+    push_fault(alloc, &mut line, fault)?;
+    line.push_bytes(b"\n")?;
+    Ok(line)
+}
+
+/// A name, what stands behind it, and the number of a line.
 fn numbered(alloc: Global, name: &Text, fault: &[u8], number: u64) -> Result<Text, Memory>
     ensures { IfOk result (λ t. t ≡ name.now ++ (fault.now ++ (decimal number ++ codes "\n"))) }
 {

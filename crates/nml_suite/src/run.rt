@@ -1,9 +1,9 @@
-ghost use Rattle.std.specs.Prelude.{◌≡◌, ◌<◌, ◌++◌, length, codes, OnOk, OnErr, IsErrOf};
+ghost use Rattle.std.specs.Prelude.{◌≡◌, ◌≤◌, ◌<◌, ◌+◌, ◌++◌, length, take, codes, OnOk, OnErr};
 ghost use Rattle.std.specs.Fmt.{signed_decimal};
 ghost use Rattle.std.specs.Option.{option_map};
-ghost use Rattle.nk_outside.specs.Count.{HasCause};
 ghost use Rattle.nk_outside.specs.Taken.{Took, TookFront};
-ghost use Rattle.nml_suite.specs.Outcome.{stop_line};
+ghost use Rattle.nml_suite.specs.Ended.{CountsPuts};
+ghost use Rattle.nml_suite.specs.Reply.{stop_line};
 ghost use Rattle.nml_suite.specs.Running.{IsPut, IsRun, TellsRun, opened, output_text, put_by, stop_after};
 ghost use Rattle.nml_suite.specs.Seen as spec;
 ghost use Rattle.nml_tree.specs.Description.{description_of};
@@ -12,9 +12,9 @@ ghost use Rattle.nml_tree.specs.IsPlain.{IsPlain};
 use crate::Status;
 use crate::ready::Ready;
 use crate::stop::Stop;
-use crate::tell::ended;
+use crate::tell::{ended, put};
 use bit_sim::{PlainSim, Step};
-use nk_base::{Memory, dec_into};
+use nk_base::dec_into;
 use nk_outside::{Sink, WriteFault};
 use std::alloc::Global;
 
@@ -43,12 +43,11 @@ fn put_run<S: Sink>(
     requires plain { IsPlain (description_of ready.now.plain) }
     requires pc { 0 < length ready.now.plain.regs.items }
     ensures run { IsRun (opened ready.now) steps (S.taken sink.old) (S.taken sink.new) result }
-    ensures failed { HasCause (S.faults sink.old) (S.faults sink.new) (IsErrOf result WriteFault.Failed) }
+    ensures counts { CountsPuts (S.faults sink.old) (S.faults sink.new) result }
 {
-    let mut line = Vec::with_capacity(alloc, LINE)?;
     let mut sim = PlainSim::open(alloc, &ready.plain, &ready.image)?;
-    let stop = put_outputs(alloc, sink, &mut sim, &mut line, steps)?;
-    put_stop(alloc, sink, &mut line, stop)?;
+    let stop = put_outputs(alloc, sink, &mut sim, steps)?;
+    put_stop(alloc, sink, stop)?;
     Ok(stop.status())
 }
 
@@ -57,16 +56,15 @@ fn put_outputs<S: Sink>(
     alloc: Global,
     sink: &mut S,
     sim: &mut PlainSim<'_>,
-    line: &mut Vec<u8>,
     steps: u64,
 ) -> Result<Stop, WriteFault>
     requires { IsPlain sim.old.description }
     ensures put { IsPut sim.old steps (S.taken sink.old) (S.taken sink.new) result }
-    ensures failed { HasCause (S.faults sink.old) (S.faults sink.new) (IsErrOf result WriteFault.Failed) }
+    ensures counts { CountsPuts (S.faults sink.old) (S.faults sink.new) result }
 {
     for turn in 0..steps {
         let step = sim.step();
-        put_output(alloc, sink, line, output_of(step))?;
+        put_output(alloc, sink, output_of(step))?;
         if let Some(stop) = stop_of(step) {
             return Ok(stop);
         }
@@ -109,15 +107,14 @@ fn stop_of(step: Step) -> Option<Stop>
 fn put_output<S: Sink>(
     alloc: Global,
     sink: &mut S,
-    line: &mut Vec<u8>,
     out: Option<i64>,
 ) -> Result<(), WriteFault>
     ensures ok { OnOk result (Took (S.taken sink.old) (S.taken sink.new) (output_text out)) }
     ensures err { OnErr result (TookFront (S.taken sink.old) (S.taken sink.new) (output_text out)) }
-    ensures failed { HasCause (S.faults sink.old) (S.faults sink.new) (IsErrOf result WriteFault.Failed) }
+    ensures counts { CountsPuts (S.faults sink.old) (S.faults sink.new) result }
 {
     match out {
-        Some(number) => put_line(alloc, sink, line, b"", i128::from(number)),
+        Some(number) => put_line(alloc, sink, b"", i128::from(number)),
         None => Ok(()),
     }
 }
@@ -126,18 +123,17 @@ fn put_output<S: Sink>(
 fn put_stop<S: Sink>(
     alloc: Global,
     sink: &mut S,
-    line: &mut Vec<u8>,
     stop: Stop,
 ) -> Result<(), WriteFault>
     ensures ok { OnOk result (Took (S.taken sink.old) (S.taken sink.new) (stop_line (spec.stop_of stop))) }
     ensures err { OnErr result (TookFront (S.taken sink.old) (S.taken sink.new) (stop_line (spec.stop_of stop))) }
-    ensures failed { HasCause (S.faults sink.old) (S.faults sink.new) (IsErrOf result WriteFault.Failed) }
+    ensures counts { CountsPuts (S.faults sink.old) (S.faults sink.new) result }
 {
     match stop {
-        Stop::Running => sink.put(alloc, b"running\n"),
-        Stop::Halted(code) => put_line(alloc, sink, line, b"halted ", i128::from(code)),
-        Stop::NoWord(place) => put_line(alloc, sink, line, b"no word ", i128::from(place)),
-        Stop::BadWord(place) => put_line(alloc, sink, line, b"bad word ", i128::from(place)),
+        Stop::Running => put(alloc, sink, b"running\n"),
+        Stop::Halted(code) => put_line(alloc, sink, b"halted ", i128::from(code)),
+        Stop::NoWord(place) => put_line(alloc, sink, b"no word ", i128::from(place)),
+        Stop::BadWord(place) => put_line(alloc, sink, b"bad word ", i128::from(place)),
     }
 }
 
@@ -145,27 +141,39 @@ fn put_stop<S: Sink>(
 fn put_line<S: Sink>(
     alloc: Global,
     sink: &mut S,
-    line: &mut Vec<u8>,
     before: &[u8],
     number: i128,
 ) -> Result<(), WriteFault>
+    requires { length before.now ≤ 20 }
     ensures ok { OnOk result (Took (S.taken sink.old) (S.taken sink.new) (before.now ++ (signed_decimal number ++ codes "\n"))) }
     ensures err { OnErr result (TookFront (S.taken sink.old) (S.taken sink.new) (before.now ++ (signed_decimal number ++ codes "\n"))) }
-    ensures failed { HasCause (S.faults sink.old) (S.faults sink.new) (IsErrOf result WriteFault.Failed) }
+    ensures counts { CountsPuts (S.faults sink.old) (S.faults sink.new) result }
 {
-    write_line(line, before, number)?;
-    sink.put(alloc, line)
+    let mut line = [0; LINE];
+    let length = write_line(&mut line, before, number);
+    put(alloc, sink, &line[..length])
 }
 
-/// Makes a line of this text and a number, in place of what was there.
-fn write_line(line: &mut Vec<u8>, before: &[u8], number: i128) -> Result<(), Memory>
-    ensures { OnOk result (line.new.items ≡ before.now ++ (signed_decimal number ++ codes "\n")) }
+/// Writes a line of this text and a number; answers its length.
+fn write_line(line: &mut [u8; LINE], before: &[u8], number: i128) -> usize
+    requires { length before.now ≤ 20 }
+    ensures within { result ≤ 64 }
+    ensures text { take result line.new ≡ before.now ++ (signed_decimal number ++ codes "\n") }
 {
     let mut digits = [0; 40];
     let length = dec_into(number, &mut digits);
-    line.clear();
-    line.extend_from_slice(before)?;
-    line.extend_from_slice(&digits[..length])?;
-    line.push(b'\n')?;
-    Ok(())
+    let behind = write_at(line, 0, before);
+    let end = write_at(line, behind, &digits[..length]);
+    write_at(line, end, b"\n")
+}
+
+/// Writes the bytes into the line, from this place on; answers the place behind them.
+fn write_at(line: &mut [u8; LINE], from: usize, bytes: &[u8]) -> usize
+    requires { from + length bytes.now ≤ 64 }
+    ensures place { result ≡ from + length bytes.now }
+    ensures text { take result line.new ≡ take from line.old ++ bytes.now }
+{
+    let end = from + bytes.len();
+    line[from..end].copy_from_slice(bytes);
+    end
 }

@@ -1,5 +1,5 @@
 ghost use Rattle.std.specs.Prelude.{◌≡◌};
-ghost use Rattle.nml_suite.specs.Status.{number_of};
+ghost use Rattle.nml_suite.specs.Status.{status_number};
 
 /// How a call ends, numbered from 0 in this order. The numbers are this project's own.
 #[derive(Clone, Copy, Debug, PartialEq, Eq)]
@@ -45,7 +45,7 @@ pub enum Status {
 impl Status {
     /// The number that the process ends with, 0 to 17.
     pub fn number(self) -> u8
-        ensures { result ≡ number_of self }
+        ensures { result ≡ status_number self }
     {
         match self {
             Status::Done => 0,

@@ -1,5 +1,5 @@
 ghost use Rattle.std.specs.Prelude.{◌≡◌};
-ghost use Rattle.nml_suite.specs.Outcome.{stop_status};
+ghost use Rattle.nml_suite.specs.Reply.{stop_status};
 ghost use Rattle.nml_suite.specs.Seen.{stop_of};
 
 use crate::Status;

@@ -1,9 +1,8 @@
-ghost use Rattle.std.specs.Prelude.{◌≡◌, ◌++◌, IfOk, OnOk, OnErr, IsErrOf};
-ghost use Rattle.nk_outside.specs.Count.{HasCause};
+ghost use Rattle.std.specs.Prelude.{◌≡◌, ◌++◌, IfOk, OnOk, OnErr};
 ghost use Rattle.nk_outside.specs.Taken.{Took, TookFront};
-ghost use Rattle.nml_suite.specs.Ended.{Ends};
-ghost use Rattle.nml_suite.specs.Outcome as spec;
-ghost use Rattle.nml_suite.specs.Refused.{refused};
+ghost use Rattle.nml_suite.specs.Ended.{CountsPuts, Ends};
+ghost use Rattle.nml_suite.specs.Refusing.{refused};
+ghost use Rattle.nml_suite.specs.Reply as spec;
 ghost use Rattle.nml_suite.specs.Told.{Told};
 
 use crate::Status;
@@ -15,45 +14,54 @@ use std::alloc::Global;
 
 /// Puts one line, and answers the status that comes of it.
 pub fn tell<S: Sink>(alloc: Global, sink: &mut S, line: &[u8], status: Status) -> Status
-    ensures { Told (spec.outcome status line.now) (S.taken sink.old) (S.taken sink.new) (S.faults sink.old) (S.faults sink.new) result }
+    ensures { Told (spec.reply status line.now) (S.taken sink.old) (S.taken sink.new) (S.faults sink.old) (S.faults sink.new) result }
 {
-    let put = sink.put(alloc, line);
-    ended(alloc, sink, put, status)
+    let done = put(alloc, sink, line);
+    ended(alloc, sink, done, status)
 }
 
 /// Puts the line of a refusal.
 pub fn tell_refusal<S: Sink>(alloc: Global, sink: &mut S, refusal: &Refusal<'_>) -> Status
     ensures { Told (refused refusal.now) (S.taken sink.old) (S.taken sink.new) (S.faults sink.old) (S.faults sink.new) result }
 {
-    let put = put_refusal(alloc, sink, refusal);
-    ended(alloc, sink, put, refusal.status())
+    let done = put_refusal(alloc, sink, refusal);
+    ended(alloc, sink, done, refusal.status())
 }
 
 /// Puts the words, a line each, and how many there are.
 pub fn tell_assembled<S: Sink>(alloc: Global, sink: &mut S, made: &Assembled) -> Status
     ensures { Told (spec.assembled made.now.image.width made.now.image.words.items) (S.taken sink.old) (S.taken sink.new) (S.faults sink.old) (S.faults sink.new) result }
 {
-    let put = put_assembled(alloc, sink, u32::from(made.image.width), &made.image.words);
-    ended(alloc, sink, put, Status::Done)
+    let done = put_assembled(alloc, sink, u32::from(made.image.width), &made.image.words);
+    ended(alloc, sink, done, Status::Done)
 }
 
 /// The status after the last put; where memory was wanted, the line `memory` is put first.
 pub fn ended<S: Sink>(
     alloc: Global,
     sink: &mut S,
-    put: Result<(), WriteFault>,
-    done: Status,
+    done: Result<(), WriteFault>,
+    success: Status,
 ) -> Status
-    ensures { Ends put done (S.taken sink.old) (S.taken sink.new) (S.faults sink.old) (S.faults sink.new) result }
+    ensures { Ends done success (S.taken sink.old) (S.taken sink.new) (S.faults sink.old) (S.faults sink.new) result }
 {
-    match put {
-        Ok(()) => done,
+    match done {
+        Ok(()) => success,
         Err(WriteFault::Failed) => Status::Write,
-        Err(WriteFault::Memory) => match sink.put(alloc, b"memory\n") {
+        Err(WriteFault::Memory) => match put(alloc, sink, b"memory\n") {
             Ok(()) | Err(WriteFault::Memory) => Status::Memory,
             Err(WriteFault::Failed) => Status::Write,
         },
     }
+}
+
+/// Puts a piece, once.
+pub fn put<S: Sink>(alloc: Global, sink: &mut S, piece: &[u8]) -> Result<(), WriteFault>
+    ensures ok { OnOk result (Took (S.taken sink.old) (S.taken sink.new) piece.now) }
+    ensures err { OnErr result (TookFront (S.taken sink.old) (S.taken sink.new) piece.now) }
+    ensures counts { CountsPuts (S.faults sink.old) (S.faults sink.new) result }
+{
+    sink.put(alloc, piece)
 }
 
 /// Puts the line of a refusal; want of memory has no text of its own.
@@ -64,13 +72,13 @@ fn put_refusal<S: Sink>(
 ) -> Result<(), WriteFault>
     ensures ok { OnOk result (Took (S.taken sink.old) (S.taken sink.new) (refused refusal.now).text) }
     ensures err { OnErr result (TookFront (S.taken sink.old) (S.taken sink.new) (refused refusal.now).text) }
-    ensures failed { HasCause (S.faults sink.old) (S.faults sink.new) (IsErrOf result WriteFault.Failed) }
+    ensures counts { CountsPuts (S.faults sink.old) (S.faults sink.new) result }
 {
     if let Refusal::Memory = refusal {
         return Err(WriteFault::Memory);
     }
     let line = refusal.line(alloc)?;
-    sink.put(alloc, line.as_bytes())
+    put(alloc, sink, line.as_bytes())
 }
 
 /// Puts the words, a line each, and how many there are.
@@ -82,11 +90,11 @@ fn put_assembled<S: Sink>(
 ) -> Result<(), WriteFault>
     ensures ok { OnOk result (Took (S.taken sink.old) (S.taken sink.new) (spec.assembled width words.now).text) }
     ensures err { OnErr result (TookFront (S.taken sink.old) (S.taken sink.new) (spec.assembled width words.now).text) }
-    ensures failed { HasCause (S.faults sink.old) (S.faults sink.new) (IsErrOf result WriteFault.Failed) }
+    ensures counts { CountsPuts (S.faults sink.old) (S.faults sink.new) result }
 {
     put_words(alloc, sink, width, words)?;
     let line = ok_line(alloc, words.len())?;
-    sink.put(alloc, line.as_bytes())
+    put(alloc, sink, line.as_bytes())
 }
 
 /// Puts the words, a line each.
@@ -98,11 +106,11 @@ fn put_words<S: Sink>(
 ) -> Result<(), WriteFault>
     ensures ok { OnOk result (Took (S.taken sink.old) (S.taken sink.new) (spec.word_lines width words.now)) }
     ensures err { OnErr result (TookFront (S.taken sink.old) (S.taken sink.new) (spec.word_lines width words.now)) }
-    ensures failed { HasCause (S.faults sink.old) (S.faults sink.new) (IsErrOf result WriteFault.Failed) }
+    ensures counts { CountsPuts (S.faults sink.old) (S.faults sink.new) result }
 {
     for word in words {
         let line = word_line(alloc, width, *word)?;
-        sink.put(alloc, line.as_bytes())?;
+        put(alloc, sink, line.as_bytes())?;
     }
     Ok(())
 }

@@ -1,8 +1,8 @@
 ghost use Rattle.std.specs.Prelude.{Some};
 ghost use Rattle.nml_suite.specs.Answer.{Answers, moment};
-ghost use Rattle.nml_suite.specs.Cause.{HasCause, IsUsage, IsComplete, LeavesOthers};
 ghost use Rattle.nml_suite.specs.Form.{form_of, Asm, Run};
-ghost use Rattle.nml_suite.specs.Outcome.{not_built};
+ghost use Rattle.nml_suite.specs.Promises.{KeepsPromises};
+ghost use Rattle.nml_suite.specs.Reply.{not_built};
 ghost use Rattle.nml_suite.specs.Told.{Told};
 
 use crate::Status;
@@ -20,23 +20,19 @@ const USAGE: &[u8] =
     b"usage: check D, asm D S I, dis D I, run D I X n, cc D C I, ceval D C X n, demo k\n";
 
 /// Does all that the program does: tells the words apart, reads the files that they name, writes an image, and puts the text.
+///
+/// The files are read in the order of the words, the written one excepted, each once and only where no earlier one is refused: a file that
+/// gives no bytes ends the call, and so does its own refusal. The image is written whole before the first line is put. A line is one put.
+/// Where a put fails the answer is [`Status::Write`], whatever else it would have been, and nothing more is put; where memory is wanted it
+/// is [`Status::Memory`], and the line `memory` is put. The promises are the fields of `KeepsPromises`; the statuses, which are this
+/// project's own, tell when each comes.
 pub fn suite<F: Files, S: Sink>(
     alloc: Global,
     words: &Vec<Text>,
     files: &mut F,
     sink: &mut S,
 ) -> Status
-    ensures answer { Answers (moment (F.held files.old) (F.counts files.old) (S.taken sink.old) (S.faults sink.old)) (moment (F.held files.new) (F.counts files.new) (S.taken sink.new) (S.faults sink.new)) (form_of words.now.items) result }
-
-    // When each answer comes.
-    ensures cause { HasCause (moment (F.held files.old) (F.counts files.old) (S.taken sink.old) (S.faults sink.old)) (moment (F.held files.new) (F.counts files.new) (S.taken sink.new) (S.faults sink.new)) (form_of words.now.items) result }
-    ensures usage { IsUsage (form_of words.now.items) result }
-
-    // Where the files are told and no count of faults rises, it is the defined answer or want of memory.
-    ensures complete { IsComplete (moment (F.held files.old) (F.counts files.old) (S.taken sink.old) (S.faults sink.old)) (moment (F.held files.new) (F.counts files.new) (S.taken sink.new) (S.faults sink.new)) (form_of words.now.items) result }
-
-    // No file is changed but the image of `asm`.
-    ensures files { LeavesOthers (moment (F.held files.old) (F.counts files.old) (S.taken sink.old) (S.faults sink.old)) (moment (F.held files.new) (F.counts files.new) (S.taken sink.new) (S.faults sink.new)) (form_of words.now.items) result }
+    ensures { KeepsPromises (moment (F.held files.old) (F.counts files.old) (S.taken sink.old) (S.faults sink.old)) (moment (F.held files.new) (F.counts files.new) (S.taken sink.new) (S.faults sink.new)) (form_of words.now.items) result }
 {
     answer(alloc, words, files, sink)
 }

@@ -1,23 +1,31 @@
 use Rattle.std.proofs.lemmas.Result.{err_from_is_err_and}
 use Rattle.nml_tree.specs.Description.{description_of}
-use Rattle.nml_suite.proofs.Settling.{asm_unread, asm_not_described, asm_no_text, asm_settled}
+use Rattle.nml_suite.proofs.Arriving.{arrived, opened, not_opened, described, not_described, assembled_text}
 use Rattle.nml_suite.proofs.assemble.assemble.Goals as goal
 
-pub returns-in_err-bytes-clause-settles : goal.returns-in_err-bytes-clause-settles
-returns-in_err-bytes-clause-settles g c = λ i.
+pub returns-in_err-bytes : goal.returns-in_err-bytes
+returns-in_err-bytes g c = λ i.
     let p = err_from_is_err_and c.from_residual.result c.from_residual.ensures.1 in
-    rw (p.1, p.2) (asm_unread _ _ _ _ _ _ i _ c.load.ensures.files.made c.in_err-bytes.ensures.loaded)
+    rw (p.1, p.2) (not_opened _ _ _ _ _ _ c.in_err-bytes.ensures)
 
-pub returns-in_err-plain-clause-settles : goal.returns-in_err-plain-clause-settles
-returns-in_err-plain-clause-settles g c = λ i.
+pub returns-in_err-plain : goal.returns-in_err-plain
+returns-in_err-plain g c = λ i.
     let p = err_from_is_err_and c.from_residual-in_err-plain.result c.from_residual-in_err-plain.ensures.1 in
-    rw (p.1, p.2) (asm_not_described _ _ _ _ _ _ i _ _ c.load.ensures.files.made c.in_ok-bytes.ensures.loaded (rw c.deref.ensures.value at c.in_err-plain.ensures))
+    rw (p.1, p.2)
+    (arrived _ _ _ _ _ _ _ _ (opened _ _ _ _ _ _ c.in_ok-bytes.ensures)
+    (not_described _ _ _ _ _ _ _ (rw c.deref.ensures.value at c.in_err-plain.ensures)))
 
-pub returns-in_err-text-clause-settles : goal.returns-in_err-text-clause-settles
-returns-in_err-text-clause-settles g c = λ i.
+pub returns-in_err-text : goal.returns-in_err-text
+returns-in_err-text g c = λ i.
     let p = err_from_is_err_and c.from_residual-in_err-text.result c.from_residual-in_err-text.ensures.1 in
-    rw (p.1, p.2) (asm_no_text _ _ _ _ _ _ _ _ i _ (description_of c.in_ok-plain.plain) _ c.load.ensures.files c.load-2.ensures.files.made c.in_ok-bytes.ensures.loaded (rw c.deref.ensures.value at c.in_ok-plain.ensures) c.in_err-text.ensures.loaded)
+    rw (p.1, p.2)
+    (arrived _ _ _ _ _ _ _ _ (opened _ _ _ _ _ _ c.in_ok-bytes.ensures)
+    (arrived _ _ _ _ _ _ _ _ (described _ _ _ _ _ (description_of c.in_ok-plain.plain) _ (rw c.deref.ensures.value at c.in_ok-plain.ensures))
+    (not_opened _ _ _ _ _ _ c.in_err-text.ensures)))
 
-pub returns-clause-settles : goal.returns-clause-settles
-returns-clause-settles g c = λ i.
-    asm_settled _ _ _ _ _ _ _ _ i _ _ (description_of c.in_ok-plain.plain) c.words_of.result c.load.ensures.files c.load-2.ensures.files.made c.in_ok-bytes.ensures.loaded (rw c.deref.ensures.value at c.in_ok-plain.ensures) c.in_ok-text.ensures.loaded (rw (c.deref-2.ensures.value, c.deref-3.ensures.value) at c.words_of.ensures)
+pub returns : goal.returns
+returns g c = λ i.
+    arrived _ _ _ _ _ _ _ _ (opened _ _ _ _ _ _ c.in_ok-bytes.ensures)
+    (arrived _ _ _ _ _ _ _ _ (described _ _ _ _ _ (description_of c.in_ok-plain.plain) _ (rw c.deref.ensures.value at c.in_ok-plain.ensures))
+    (arrived _ _ _ _ _ _ _ _ (opened _ _ _ _ _ _ c.in_ok-text.ensures)
+    (assembled_text _ _ i _ _ _ c.words_of.result (rw (c.deref-2.ensures.value, c.deref-3.ensures.value) at c.words_of.ensures))))

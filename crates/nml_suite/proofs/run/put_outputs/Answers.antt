@@ -1,4 +1,4 @@
-use Rattle.std.proofs.Common.{subst, arith}
+use Rattle.std.proofs.Common.{subst, arith, ◌∙◌}
 use Rattle.std.proofs.lemmas.Result.{err_from_is_err_and}
 use Rattle.nk_outside.specs.Taken.{Took, TookFront}
 use Rattle.nml_suite.specs.Running.{output_text}
@@ -25,7 +25,7 @@ loop-turn-preserved g c =
     record {
       so_far = one_more _ _ _ _ _ _ _ _ _ (in_turn _ _ _ _ _ _ (omega (arith, c.loop-turn-test.true)) c.loop-turn.invariant.so_far) s c.in_default.ensures
           (subst (λ o. Took (g.S.Sink.taken c.loop-turn.sink) (g.S.Sink.taken c.put_output.new.sink) (output_text o)) c.output_of.ensures c.in_ok-put_output.ensures.ok);
-      later = omega (arith, c.loop-turn.invariant.later, c.put_output.ensures.failed.later);
+      same = c.in_ok-put_output.ensures.counts ∙ c.loop-turn.invariant.same;
     }
 
 pub returns-clause-put : goal.returns-clause-put

@@ -1,4 +1,4 @@
-use Rattle.std.proofs.Common.{◌≤◌, ◌-◌}
+use Rattle.std.proofs.Common.{◌≡◌, ◌-◌}
 use Rattle.nml_suite.proofs.Outputs.{SoFar}
 use Rattle.nml_suite.proofs.run.put_outputs.Given as goal
 
@@ -6,5 +6,5 @@ use Rattle.nml_suite.proofs.run.put_outputs.Given as goal
 abbrev pub invariant-loop-turn : goal.invariant-loop-turn
 invariant-loop-turn g l = record {
   so_far : SoFar l.fn.sim l.sim l.steps (l.steps - l.turn) (g.S.Sink.taken l.fn.sink) (g.S.Sink.taken l.sink);
-  later : g.S.Sink.faults l.fn.sink ≤ g.S.Sink.faults l.sink;
+  same : g.S.Sink.faults l.sink ≡ g.S.Sink.faults l.fn.sink;
 }

@@ -2,7 +2,7 @@ use Rattle.std.proofs.Common.{subst, ◌∙◌, length}
 use Rattle.std.proofs.lemmas.Result.{err_from_is_err_and}
 use Rattle.nk_outside.specs.Taken.{TookFront}
 use Rattle.nk_outside.proofs.Pieces.{front_after, front_of_first}
-use Rattle.nml_suite.specs.Outcome.{word_lines, ok_line}
+use Rattle.nml_suite.specs.Reply.{word_lines, ok_line}
 use Rattle.nml_suite.proofs.Lines.{on_err}
 use Rattle.nml_suite.proofs.tell.put_assembled.Goals as goal
 
@@ -13,7 +13,7 @@ returns-in_err-put_words-clause-err g c =
 
 pub returns-clause-err : goal.returns-clause-err
 returns-clause-err g c =
-    on_err (TookFront (g.S.Sink.taken c.put_words.new.sink) (g.S.Sink.taken c.put.new.self) c.as_bytes.result.now) _ c.put.result
+    on_err (TookFront (g.S.Sink.taken c.put_words.new.sink) (g.S.Sink.taken c.put.new.sink) c.as_bytes.result.now) _ c.put.result
     (λ f. front_after _ _ _ (word_lines c.args.width c.args.words.now) (ok_line (length c.args.words.now)) c.in_ok-put_words.ensures.ok
-    (subst (TookFront (g.S.Sink.taken c.put_words.new.sink) (g.S.Sink.taken c.put.new.self)) (c.as_bytes.ensures ∙ c.in_ok-line.ensures) f))
+    (subst (TookFront (g.S.Sink.taken c.put_words.new.sink) (g.S.Sink.taken c.put.new.sink)) (c.as_bytes.ensures ∙ c.in_ok-line.ensures) f))
     c.put.ensures.err

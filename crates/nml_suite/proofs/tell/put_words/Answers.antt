@@ -15,11 +15,11 @@ returns-in_err-put-clause-err g c =
     let p = err_from_is_err_and c.from_residual-in_err-put.result c.from_residual-in_err-put.ensures.1 in
     rw p.1
     (cut_in_line _ _ _ c.args.width c.args.words.now c.loop-word.word-index (omega (arith, c.loop-word-test.true)) c.loop-word.invariant.took
-    (subst (TookFront (g.S.Sink.taken c.loop-word.sink) (g.S.Sink.taken c.put.new.self)) (c.as_bytes.ensures ∙ c.in_ok-line.ensures) c.in_err-put.ensures.err))
+    (subst (TookFront (g.S.Sink.taken c.loop-word.sink) (g.S.Sink.taken c.put.new.sink)) (c.as_bytes.ensures ∙ c.in_ok-line.ensures) c.in_err-put.ensures.err))
 
 pub loop-word-preserved : goal.loop-word-preserved
 loop-word-preserved g c = record {
-  took = subst (Took (g.S.Sink.taken c.args.sink.now) (g.S.Sink.taken c.put.new.self)) (sym (lines_more c.args.width c.args.words.now c.loop-word.word-index (omega (arith, c.loop-word-test.true))))
-      (took_append _ _ _ _ _ c.loop-word.invariant.took (subst (Took (g.S.Sink.taken c.loop-word.sink) (g.S.Sink.taken c.put.new.self)) (c.as_bytes.ensures ∙ c.in_ok-line.ensures) c.in_ok-put.ensures.ok));
-  later = omega (arith, c.loop-word.invariant.later, c.put.ensures.failed.later);
+  took = subst (Took (g.S.Sink.taken c.args.sink.now) (g.S.Sink.taken c.put.new.sink)) (sym (lines_more c.args.width c.args.words.now c.loop-word.word-index (omega (arith, c.loop-word-test.true))))
+      (took_append _ _ _ _ _ c.loop-word.invariant.took (subst (Took (g.S.Sink.taken c.loop-word.sink) (g.S.Sink.taken c.put.new.sink)) (c.as_bytes.ensures ∙ c.in_ok-line.ensures) c.in_ok-put.ensures.ok));
+  same = c.in_ok-put.ensures.counts ∙ c.loop-word.invariant.same;
 }

@@ -2,4 +2,4 @@ use Rattle.nml_suite.proofs.Telling.{told_by}
 use Rattle.nml_suite.proofs.tell.tell.Goals as goal
 
 pub returns : goal.returns
-returns g c = told_by _ _ _ _ _ _ _ _ _ c.put-put.ensures.ok c.put-put.ensures.err c.put-put.ensures.failed c.ended.ensures
+returns g c = told_by _ _ _ _ _ _ _ _ _ c.put-done.ensures.ok c.put-done.ensures.err c.put-done.ensures.counts c.ended.ensures

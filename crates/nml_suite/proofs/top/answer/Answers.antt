@@ -4,19 +4,19 @@ use Rattle.nml_suite.proofs.Answering.{other_told, usage_told}
 use Rattle.nml_suite.proofs.top.answer.Goals as goal
 
 pub returns-in-Some-Check : goal.returns-in-Some-Check
-returns-in-Some-Check g c = let e = rw (c.deref.ensures.value, c.in-Some-Check.field-0-is) at c.in-Some-Check.ensures in other_told _ _ _ _ _ _ _ _ (subst IsOther e tt) c.tell_not_built.ensures
+returns-in-Some-Check g c = let e = rw (c.deref.ensures.value, c.in-Some-Check.field-0-is) at c.in-Some-Check.ensures in other_told _ _ _ _ _ _ _ (subst IsOther e tt) c.tell_not_built.ensures
 
 pub returns-in-Some-Dis : goal.returns-in-Some-Dis
-returns-in-Some-Dis g c = let e = rw (c.deref.ensures.value, c.in-Some-Dis.field-0-is) at c.in-Some-Dis.ensures in other_told _ _ _ _ _ _ _ _ (subst IsOther e tt) c.tell_not_built-in-Some-Dis.ensures
+returns-in-Some-Dis g c = let e = rw (c.deref.ensures.value, c.in-Some-Dis.field-0-is) at c.in-Some-Dis.ensures in other_told _ _ _ _ _ _ _ (subst IsOther e tt) c.tell_not_built-in-Some-Dis.ensures
 
 pub returns-in-Some-Cc : goal.returns-in-Some-Cc
-returns-in-Some-Cc g c = let e = rw (c.deref.ensures.value, c.in-Some-Cc.field-0-is) at c.in-Some-Cc.ensures in other_told _ _ _ _ _ _ _ _ (subst IsOther e tt) c.tell_not_built-in-Some-Cc.ensures
+returns-in-Some-Cc g c = let e = rw (c.deref.ensures.value, c.in-Some-Cc.field-0-is) at c.in-Some-Cc.ensures in other_told _ _ _ _ _ _ _ (subst IsOther e tt) c.tell_not_built-in-Some-Cc.ensures
 
 pub returns-in-Some-Ceval : goal.returns-in-Some-Ceval
-returns-in-Some-Ceval g c = let e = rw (c.deref.ensures.value, c.in-Some-Ceval.field-0-is) at c.in-Some-Ceval.ensures in other_told _ _ _ _ _ _ _ _ (subst IsOther e tt) c.tell_not_built-in-Some-Ceval.ensures
+returns-in-Some-Ceval g c = let e = rw (c.deref.ensures.value, c.in-Some-Ceval.field-0-is) at c.in-Some-Ceval.ensures in other_told _ _ _ _ _ _ _ (subst IsOther e tt) c.tell_not_built-in-Some-Ceval.ensures
 
 pub returns-in-Some-Demo : goal.returns-in-Some-Demo
-returns-in-Some-Demo g c = let e = rw (c.deref.ensures.value, c.in-Some-Demo.field-0-is) at c.in-Some-Demo.ensures in other_told _ _ _ _ _ _ _ _ (subst IsOther e tt) c.tell_not_built-in-Some-Demo.ensures
+returns-in-Some-Demo g c = let e = rw (c.deref.ensures.value, c.in-Some-Demo.field-0-is) at c.in-Some-Demo.ensures in other_told _ _ _ _ _ _ _ (subst IsOther e tt) c.tell_not_built-in-Some-Demo.ensures
 
 pub returns-in-None : goal.returns-in-None
-returns-in-None g c = let e = rw c.deref.ensures.value at c.in-None.ensures in usage_told _ _ _ _ _ _ _ _ e c.tell.ensures
+returns-in-None g c = let e = rw c.deref.ensures.value at c.in-None.ensures in usage_told _ _ _ _ _ _ _ e c.tell.ensures

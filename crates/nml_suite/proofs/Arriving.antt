@@ -1,0 +1,116 @@
+-- How the steps of a command are put together: the first files lead to what the rest comes to.
+use Rattle.std.proofs.Common.{◌≡◌, ◌⊎◌, inl, inr, ℕ, List, [], ◌∷◌, ◌++◌, Option, Some, None, Result, Ok, Err, refl, sym, ap, ◌∙◌, subst, append_assoc}
+use Rattle.nml_tree.specs.Description.{Description}
+use Rattle.image_file.specs.Seen.{picture_of}
+use Rattle.image_file.specs.declared.image.Image.{Image}
+use Rattle.asm_tool.specs.PlainText.{lines}
+use Rattle.nml_suite.specs.Answer.{AreNamed}
+use Rattle.nml_suite.specs.Coming.{Opens, Short, Opened, Accepts, Faulty, Accepted, Simplifies, Other, Plain, AssemblesTo, NotPlain, NoMatch, Words, Loads, NoImage, Loaded, RunsTo, Input, Ran, IsImageOf, first_input}
+use Rattle.nml_suite.specs.Described.{Describes}
+use Rattle.nml_suite.specs.Reading.{Store, Reading, Got, IsShort, Asked, IsRead, AreRead}
+use Rattle.nml_suite.specs.Reply.{assembled, starved, unread}
+use Rattle.nml_suite.specs.Refusing.{refused, settled, file_named, Settles, Arrives, IsUnread, IsDescribed, IsAssembledText, IsFound, IsBlankInput, TellsRunOf}
+use Rattle.nml_suite.specs.Work.{Work, telling}
+use Rattle.nml_suite.specs.declared.assemble.Assembled.{Assembled}
+use Rattle.nml_suite.specs.declared.purpose.Purpose.{Purpose}
+use Rattle.nml_suite.specs.declared.refusal.Refusal.{Refusal}
+use Rattle.nml_suite.proofs.Reads.{reads_append}
+
+led : (C G : Type 0) (w : Work) → (G → C) → G ⊎ (w ≡ telling starved) → C ⊎ (w ≡ telling starved)
+led C G w f (inl g) = inl (f g)
+led C G w f (inr e) = inr e
+
+-- what the rest comes to, the whole comes to
+pub arrived : (b m n : Store) (names rest : List (List ℕ)) (comes goes : List Asked → Work → Type 0) (w : Work)
+    → Arrives b m names rest comes goes → Settles m n rest goes w → Settles b n names comes w
+arrived b m n names rest comes goes w a s = record {
+  asked = a.asked ++ s.asked;
+  reads = reads_append b m n a.asked s.asked a.reads s.reads;
+  named = a.named s.asked s.named;
+  is = led (comes (a.asked ++ s.asked) w) (goes s.asked w) w (a.leads s.asked w) s.is;
+}
+
+pub both : (b m n : Store) (names rest last : List (List ℕ)) (comes goes went : List Asked → Work → Type 0)
+    → Arrives b m names rest comes goes → Arrives m n rest last goes went → Arrives b n names last comes went
+both b m n names rest last comes goes went a c = record {
+  asked = a.asked ++ c.asked;
+  reads = reads_append b m n a.asked c.asked a.reads c.reads;
+  named = λ more h. subst (λ xs. AreNamed xs names) (sym (append_assoc a.asked c.asked more)) (a.named (c.asked ++ more) (c.named more h));
+  leads = λ more w g. subst (λ xs. comes xs w) (sym (append_assoc a.asked c.asked more)) (a.leads (c.asked ++ more) w (c.leads more w g));
+}
+
+-- nothing more is read
+pub here : (b : Store) (names : List (List ℕ)) (comes : List Asked → Work → Type 0) (w : Work) → comes [] w ⊎ (w ≡ telling starved) → Settles b b names comes w
+here b names comes w is = record { asked = []; reads = refl; named = tt; is = is }
+
+pub on : (b : Store) (names : List (List ℕ)) (comes goes : List Asked → Work → Type 0) → ((more : List Asked) (w : Work) → goes more w → comes more w)
+    → Arrives b b names names comes goes
+on b names comes goes f = record { asked = []; reads = refl; named = λ more h. h; leads = f }
+
+-- ---- a file
+
+pub opened : (b n : Store) (name bytes : List ℕ) (names : List (List ℕ)) (goes : List ℕ → List Asked → Work → Type 0) → IsRead b n name (Got bytes)
+    → Arrives b n (name ∷ names) names (Opens name goes) (goes bytes)
+opened b n name bytes names goes r = record {
+  asked = (name, Got bytes) ∷ [];
+  reads = (n, r, refl);
+  named = λ more h. (refl, h);
+  leads = λ more w g. Opened bytes more refl g;
+}
+
+short_or_starved : (name : List ℕ) (r : Reading) (goes : List ℕ → List Asked → Work → Type 0) (e : Refusal) → (IsShort r × (refused e ≡ unread name r)) ⊎ (refused e ≡ starved)
+    → Opens name goes ((name, r) ∷ []) (telling (refused e)) ⊎ (telling (refused e) ≡ telling starved)
+short_or_starved name r goes e (inl x) = inl (Short r refl x.0 (ap telling x.1))
+short_or_starved name r goes e (inr x) = inr (ap telling x)
+
+pub not_opened : (b n : Store) (name : List ℕ) (names : List (List ℕ)) (goes : List ℕ → List Asked → Work → Type 0) (e : Refusal) → IsUnread b n name (refused e)
+    → Settles b n (name ∷ names) (Opens name goes) (telling (refused e))
+not_opened b n name names goes e u = record {
+  asked = (name, u.reading) ∷ [];
+  reads = (n, u.read, refl);
+  named = (refl, tt);
+  is = short_or_starved name u.reading goes e u.is;
+}
+
+-- ---- a description
+
+pub described : (b : Store) (names : List (List ℕ)) (purpose : Purpose) (name bytes : List ℕ) (d : Description) (goes : Description → List Asked → Work → Type 0)
+    → Describes purpose bytes d → Arrives b b names names (Accepts name bytes (λ tree. Simplifies purpose name tree goes)) (goes d)
+described b names purpose name bytes d goes h = on b names _ (goes d) (λ more w g. Accepted h.tree h.accepted (Plain d h.built g))
+
+pub not_described : (b : Store) (names : List (List ℕ)) (purpose : Purpose) (name bytes : List ℕ) (e : Refusal) (goes : Description → List Asked → Work → Type 0)
+    → IsDescribed purpose name bytes (Err e) → Settles b b names (Accepts name bytes (λ tree. Simplifies purpose name tree goes)) (telling (refused e))
+not_described b names purpose name bytes e goes (inl wants) = here b names _ _ (inr (ap telling wants))
+not_described b names purpose name bytes e goes (inr (inl x)) = here b names _ _ (inl (Faulty x.fault x.faulty (record { last = refl; is = ap telling x.is })))
+not_described b names purpose name bytes e goes (inr (inr x)) =
+    here b names _ _ (inl (Accepted x.tree x.accepted (Other x.none (record { last = refl; is = ap telling x.is }))))
+
+-- ---- `asm`
+
+pub assembled_text : (b : Store) (s i bytes : List ℕ) (d : Description) (text : List ℕ) (r : Result Assembled Refusal) → IsAssembledText bytes d s text r
+    → Settles b b [] (AssemblesTo s i bytes d text) (settled i r)
+assembled_text b s i bytes d text (Ok all) z =
+    here b [] _ _ (inl (Words z.fit z.words z.assembles refl
+    (λ j. record { file = z.made_of.file_is i j; reply = assembled (z.made_of.width_is j) (z.made_of.words_are j) })))
+assembled_text b s i bytes d text (Err e) (inl wants) = here b [] _ _ (inr (ap telling wants))
+assembled_text b s i bytes d text (Err e) (inr (inl z)) = here b [] _ _ (inl (NotPlain z.other (record { last = refl; is = ap telling z.is })))
+assembled_text b s i bytes d text (Err e) (inr (inr z)) = here b [] _ _ (inl (NoMatch z.fit z.line z.fails (record { last = refl; is = ap telling z.is })))
+
+-- ---- `run`
+
+pub loaded : (b : Store) (names : List (List ℕ)) (name bytes : List ℕ) (d : Description) (bits : List ℕ) (i : Image) (goes : List ℕ → List Asked → Work → Type 0)
+    → IsImageOf bytes d bits (picture_of i) → Arrives b b names names (Loads name bytes d bits goes) (goes i.words.items)
+loaded b names name bytes d bits i goes h = on b names _ (goes i.words.items) (λ more w g. Loaded (picture_of i) h g)
+
+pub not_loaded : (b : Store) (names : List (List ℕ)) (name bytes : List ℕ) (d : Description) (bits : List ℕ) (e : Refusal) (goes : List ℕ → List Asked → Work → Type 0)
+    → IsFound bytes d name bits (Err e) → Settles b b names (Loads name bytes d bits goes) (telling (refused e))
+not_loaded b names name bytes d bits e goes (inl wants) = here b names _ _ (inr (ap telling wants))
+not_loaded b names name bytes d bits e goes (inr x) = here b names _ _ (inl (NoImage x.1 (record { last = refl; is = ap telling x.0 })))
+
+pub blank : (b : Store) (x : List ℕ) (steps : ℕ) (d : Description) (words text : List ℕ) → first_input 1 (lines text) ≡ None
+    → Arrives b b [] [] (RunsTo x steps d words text) (TellsRunOf steps d words)
+blank b x steps d words text h = on b [] _ (TellsRunOf steps d words) (λ more w r. Ran h r.0 r.1 r.2)
+
+pub not_blank : (b : Store) (x : List ℕ) (steps : ℕ) (d : Description) (words text : List ℕ) (e : Refusal) → IsBlankInput x text (Err e)
+    → Settles b b [] (RunsTo x steps d words text) (telling (refused e))
+not_blank b x steps d words text e h = here b [] _ _ (inl (Input h.0 h.1 (record { last = refl; is = ap telling h.2 })))

@@ -1,0 +1,87 @@
+-- What holds of each work that words come to, step by step.
+use Rattle.std.proofs.Common.{◌≡◌, ℕ, suc, List, [], ◌∷◌, Option, Some, None, refl, sym, ap, subst}
+use Rattle.nml_tree.specs.Description.{Description}
+use Rattle.nml_tree.specs.declared.tree.Desc.{Desc}
+use Rattle.nml_suite.specs.Coming.{EndsWith, Opens, Short, Opened, Accepts, Faulty, Accepted, Simplifies, Other, Plain, AssemblesTo, NotPlain, NoMatch, Words, Loads, NoImage, Loaded, RunsTo, Input, Ran, ComesTo}
+use Rattle.nml_suite.specs.Form.{Form, Check, Asm, Dis, Run, Cc, Ceval, Demo}
+use Rattle.nml_suite.specs.Reading.{Reading, Got, Absent, Failed, TooLong, Unread, IsShort, Asked}
+use Rattle.nml_suite.specs.Reply.{Reply}
+use Rattle.nml_suite.specs.Work.{Work, Written, telling}
+use Rattle.nml_suite.specs.declared.purpose.Purpose.{Purpose}
+use Rattle.nml_suite.specs.declared.status.Status.TheVariants as statuses
+
+-- no read wanted memory
+abbrev pub NoneUnread : List Asked → Type 0
+NoneUnread [] = Unit {0}
+NoneUnread (one ∷ more) = (one.1 ≡ Unread → ⊥) × NoneUnread more
+
+-- a work with a file ends well
+abbrev IsDone : Work → Type 0
+IsDone w = (f : Written) → w.file ≡ Some f → w.reply.status ≡ statuses.Done
+
+-- what the reads and the work of any words are
+pub record IsSound (asked : List Asked) (work : Work) : Type 0 where
+  pub told : NoneUnread asked
+  pub done : IsDone work
+
+telling_done : (w : Work) (o : Reply) → w ≡ telling o → IsDone w
+telling_done w o e f is = absurd (cc (e, is))
+
+ends_sound : (o : Reply) (xs : List Asked) (w : Work) → EndsWith o xs w → IsSound xs w
+ends_sound o xs w e = record { told = subst NoneUnread (sym e.last) tt; done = telling_done w o e.is }
+
+short_told : (r : Reading) → IsShort r → r ≡ Unread → ⊥
+short_told r h e = subst IsShort e h
+
+opens_sound : (name : List ℕ) (goes : List ℕ → List Asked → Work → Type 0) (xs : List Asked) (w : Work) → ((bytes : List ℕ) (more : List Asked) → goes bytes more w → IsSound more w)
+    → Opens name goes xs w → IsSound xs w
+opens_sound name goes xs w h (Short r e short is) =
+    record { told = subst NoneUnread (sym e) (λ u. short_told r short u, tt); done = telling_done w _ is }
+opens_sound name goes xs w h (Opened bytes more e g) =
+    let s = h bytes more g in record { told = subst NoneUnread (sym e) (λ u. absurd (cc u), s.told); done = s.done }
+
+accepts_sound : (name bytes : List ℕ) (goes : Desc → List Asked → Work → Type 0) (xs : List Asked) (w : Work) → ((tree : Desc) → goes tree xs w → IsSound xs w)
+    → Accepts name bytes goes xs w → IsSound xs w
+accepts_sound name bytes goes xs w h (Faulty fault x e) = ends_sound _ xs w e
+accepts_sound name bytes goes xs w h (Accepted tree a g) = h tree g
+
+simplifies_sound : (purpose : Purpose) (name : List ℕ) (tree : Desc) (goes : Description → List Asked → Work → Type 0) (xs : List Asked) (w : Work)
+    → ((d : Description) → goes d xs w → IsSound xs w) → Simplifies purpose name tree goes xs w → IsSound xs w
+simplifies_sound purpose name tree goes xs w h (Other none e) = ends_sound _ xs w e
+simplifies_sound purpose name tree goes xs w h (Plain d built g) = h d g
+
+text_sound : (s i bytes : List ℕ) (d : Description) (text : List ℕ) (xs : List Asked) (w : Work) → AssemblesTo s i bytes d text xs w → IsSound xs w
+text_sound s i bytes d text xs w (NotPlain c e) = ends_sound _ xs w e
+text_sound s i bytes d text xs w (NoMatch c line l e) = ends_sound _ xs w e
+text_sound s i bytes d text xs w (Words c words l last e) = record { told = subst NoneUnread (sym last) tt; done = λ f is. ap (λ (k : Work). k.reply.status) e }
+
+loads_sound : (name bytes : List ℕ) (d : Description) (bits : List ℕ) (goes : List ℕ → List Asked → Work → Type 0) (xs : List Asked) (w : Work)
+    → ((words : List ℕ) → goes words xs w → IsSound xs w) → Loads name bytes d bits goes xs w → IsSound xs w
+loads_sound name bytes d bits goes xs w h (NoImage none e) = ends_sound _ xs w e
+loads_sound name bytes d bits goes xs w h (Loaded i is g) = h i.words g
+
+runs_sound : (x : List ℕ) (steps : ℕ) (d : Description) (words text : List ℕ) (xs : List Asked) (w : Work) → RunsTo x steps d words text xs w → IsSound xs w
+runs_sound x steps d words text xs w (Input line is e) = ends_sound _ xs w e
+runs_sound x steps d words text xs w (Ran blank r runs e) = ends_sound _ xs w e
+
+pub sound : (form : Option Form) (xs : List Asked) (w : Work) → ComesTo form xs w → IsSound xs w
+sound None xs w e = ends_sound _ xs w e
+sound (Some (Asm d s i)) xs w g =
+    opens_sound d _ xs w
+    (λ bytes more. accepts_sound d bytes _ more w
+    (λ tree. simplifies_sound _ d tree _ more w
+    (λ p. opens_sound s _ more w (λ text rest. text_sound s i bytes p text rest w))))
+    g
+sound (Some (Run d i x n)) xs w g =
+    opens_sound d _ xs w
+    (λ bytes more. accepts_sound d bytes _ more w
+    (λ tree. simplifies_sound _ d tree _ more w
+    (λ p. opens_sound i _ more w
+    (λ bits rest. loads_sound i bytes p bits _ rest w
+    (λ words. opens_sound x _ rest w (λ text last. runs_sound x n p words text last w))))))
+    g
+sound (Some (Check d)) xs w e = ends_sound _ xs w e
+sound (Some (Dis d i)) xs w e = ends_sound _ xs w e
+sound (Some (Cc d s i)) xs w e = ends_sound _ xs w e
+sound (Some (Ceval d s x n)) xs w e = ends_sound _ xs w e
+sound (Some (Demo k)) xs w e = ends_sound _ xs w e

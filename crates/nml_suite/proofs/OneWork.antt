@@ -1,0 +1,142 @@
+-- However the reads are answered, words come to one thing alone.
+use Rattle.std.proofs.Common.{◌≡◌, ℕ, suc, List, [], ◌∷◌, Option, Some, None, refl, sym, ap, ◌∙◌, subst, arith}
+use Rattle.nml_tree.specs.Description.{Description}
+use Rattle.nml_tree.specs.IsPlain.{IsPlain}
+use Rattle.nml_tree.specs.declared.tree.Desc.{Desc}
+use Rattle.image_file.specs.File.{Picture, Init, HasFile}
+use Rattle.image_file.proofs.OneFile.{one}
+use Rattle.asm_tool.specs.PlainText.{lines}
+use Rattle.asm_tool.proofs.AssembledWords.{pc_numbers}
+use Rattle.asm_tool.proofs.Determined.{HasOneWord, one_assembly, none_fails, one_failure, both}
+use Rattle.asm_tool.proofs.Instructions.{same_word}
+use Rattle.bit_sim.proofs.OneRun.{one_run}
+use Rattle.nml_suite.specs.Coming.{EndsWith, Opens, Short, Opened, Accepts, Faulty, Accepted, Simplifies, Other, Plain, AssemblesTo, NotPlain, NoMatch, Words, Loads, NoImage, Loaded, RunsTo, Input, Ran, IsImageOf, ComesTo, picture, made}
+use Rattle.nml_suite.specs.Complete.{Answering, AreAnswered, ComesOut}
+use Rattle.nml_suite.specs.Described.{IsAccepted, IsBuilt}
+use Rattle.nml_suite.specs.Form.{Form, Check, Asm, Dis, Run, Cc, Ceval, Demo}
+use Rattle.nml_suite.specs.Reading.{Reading, Got, IsShort, Asked}
+use Rattle.nml_suite.specs.Reply.{Reply, unread, description_fault, no_match, bad_input, told_run}
+use Rattle.nml_suite.specs.Work.{Work, telling}
+use Rattle.nml_suite.specs.declared.purpose.Purpose.{Purpose}
+use Rattle.nml_suite.proofs.Images.{has_file}
+use Rattle.nml_suite.proofs.OneFault.{one_fault, no_fault, one_accepted, one_built}
+
+same_bytes : {a b : List ℕ} → Got a ≡ Got b → a ≡ b
+same_bytes e = cc
+
+-- the same is told
+both_end : (o p : Reply) (xs ys : List Asked) (w v : Work) → o ≡ p → EndsWith o xs w → EndsWith p ys v → w ≡ v
+both_end o p xs ys w v e x y = x.is ∙ ap telling e ∙ sym y.is
+
+-- ---- the steps
+
+opens_one : (answers : Answering) (k : ℕ) (name : List ℕ) (goes went : List ℕ → List Asked → Work → Type 0) (xs ys : List Asked) (w v : Work)
+    → AreAnswered answers k xs → AreAnswered answers k ys
+    → ((bytes : List ℕ) (more other : List Asked) → AreAnswered answers (suc k) more → AreAnswered answers (suc k) other → goes bytes more w → went bytes other v → w ≡ v)
+    → Opens name goes xs w → Opens name went ys v → w ≡ v
+opens_one answers k name goes went xs ys w v a b h (Short r e short is) (Short q f brief so) =
+    let x : AreAnswered answers k ((name, r) ∷ []) = subst (AreAnswered answers k) e a in
+    let y : AreAnswered answers k ((name, q) ∷ []) = subst (AreAnswered answers k) f b in
+    is ∙ ap (λ z. telling (unread name z)) (x.0 ∙ sym y.0) ∙ sym so
+opens_one answers k name goes went xs ys w v a b h (Short r e short is) (Opened bytes more f g) =
+    let x : AreAnswered answers k ((name, r) ∷ []) = subst (AreAnswered answers k) e a in
+    let y : AreAnswered answers k ((name, Got bytes) ∷ more) = subst (AreAnswered answers k) f b in
+    absurd (subst IsShort (x.0 ∙ sym y.0) short)
+opens_one answers k name goes went xs ys w v a b h (Opened bytes more e g) (Short q f brief so) =
+    let x : AreAnswered answers k ((name, Got bytes) ∷ more) = subst (AreAnswered answers k) e a in
+    let y : AreAnswered answers k ((name, q) ∷ []) = subst (AreAnswered answers k) f b in
+    absurd (subst IsShort (y.0 ∙ sym x.0) brief)
+opens_one answers k name goes went xs ys w v a b h (Opened bytes more e g) (Opened text other f d) =
+    let x : AreAnswered answers k ((name, Got bytes) ∷ more) = subst (AreAnswered answers k) e a in
+    let y : AreAnswered answers k ((name, Got text) ∷ other) = subst (AreAnswered answers k) f b in
+    h text more other x.1 y.1 (subst (λ t. goes t more w) (same_bytes (x.0 ∙ sym y.0)) g) d
+
+accepts_one : (name bytes : List ℕ) (goes went : Desc → List Asked → Work → Type 0) (xs ys : List Asked) (w v : Work)
+    → ((tree : Desc) → IsAccepted bytes tree → goes tree xs w → went tree ys v → w ≡ v)
+    → Accepts name bytes goes xs w → Accepts name bytes went ys v → w ≡ v
+accepts_one name bytes goes went xs ys w v h (Faulty f x e) (Faulty g y i) = both_end _ _ xs ys w v (ap (description_fault name) (one_fault bytes f g x y)) e i
+accepts_one name bytes goes went xs ys w v h (Faulty f x e) (Accepted t a g) = absurd (no_fault bytes t f a x)
+accepts_one name bytes goes went xs ys w v h (Accepted t a g) (Faulty f x e) = absurd (no_fault bytes t f a x)
+accepts_one name bytes goes went xs ys w v h (Accepted t a g) (Accepted u b d) = h u b (subst (λ z. goes z xs w) (one_accepted bytes t u a b) g) d
+
+simplifies_one : (purpose : Purpose) (name : List ℕ) (tree : Desc) (goes went : Description → List Asked → Work → Type 0) (xs ys : List Asked) (w v : Work)
+    → ((d : Description) → IsPlain d → goes d xs w → went d ys v → w ≡ v)
+    → Simplifies purpose name tree goes xs w → Simplifies purpose name tree went ys v → w ≡ v
+simplifies_one purpose name tree goes went xs ys w v h (Other none e) (Other no_other i) = both_end _ _ xs ys w v refl e i
+simplifies_one purpose name tree goes went xs ys w v h (Other none e) (Plain d b g) = absurd (none d b)
+simplifies_one purpose name tree goes went xs ys w v h (Plain d b g) (Other none e) = absurd (none d b)
+simplifies_one purpose name tree goes went xs ys w v h (Plain d b g) (Plain c k f) = h c k.plain.plain (subst (λ z. goes z xs w) (one_built tree d c b.plain k.plain) g) f
+
+-- ---- `asm`
+
+text_one : (s i bytes : List ℕ) (d : Description) (text : List ℕ) (xs ys : List Asked) (w v : Work) → HasOneWord d
+    → AssemblesTo s i bytes d text xs w → AssemblesTo s i bytes d text ys v → w ≡ v
+text_one s i bytes d text xs ys w v h (NotPlain a e) (NotPlain b f) = both_end _ _ xs ys w v refl e f
+text_one s i bytes d text xs ys w v h (NotPlain a e) (NoMatch b line l f) = absurd (both _ b a)
+text_one s i bytes d text xs ys w v h (NotPlain a e) (Words b ws l last f) = absurd (both _ b a)
+text_one s i bytes d text xs ys w v h (NoMatch a line l e) (NotPlain b f) = absurd (both _ a b)
+text_one s i bytes d text xs ys w v h (NoMatch a line l e) (NoMatch b other m f) = both_end _ _ xs ys w v (ap (no_match s) (one_failure d (lines text) line other l m)) e f
+text_one s i bytes d text xs ys w v h (NoMatch a line l e) (Words b ws m last f) = absurd (none_fails d (lines text) ws l.before l.line m l.stands l.fails)
+text_one s i bytes d text xs ys w v h (Words a ws l last e) (NotPlain b f) = absurd (both _ a b)
+text_one s i bytes d text xs ys w v h (Words a ws l last e) (NoMatch b line m f) = absurd (none_fails d (lines text) ws m.before m.line l m.stands m.fails)
+text_one s i bytes d text xs ys w v h (Words a ws l last e) (Words b vs m end f) = e ∙ ap (made i bytes d) (one_assembly d h (lines text) ws vs l m) ∙ sym f
+
+-- ---- `run`
+
+-- an image of a description is the picture of its words
+image_is : (bytes : List ℕ) (d : Description) (bits : List ℕ) (i : Picture) → IsImageOf bytes d bits i → i ≡ picture bytes d i.words
+image_is bytes d bits i h =
+    let make : List ℕ → ℕ → List Init → Picture = λ digest width inits. record { digest = digest; width = width; words = i.words; inits = inits } in
+    λ j. make (h.plain.digest_is j) (h.plain.width_is j) (h.plain.no_inits j)
+
+image_has_file : (bytes : List ℕ) (d : Description) (bits : List ℕ) (i : Picture) → IsPlain d → IsImageOf bytes d bits i → HasFile i
+image_has_file bytes d bits i p h =
+    subst HasFile (sym (image_is bytes d bits i h)) (has_file bytes d i.words p (omega (arith, h.plain.words_count, pc_numbers d.regs p.regs_are)) h.plain.words_fit)
+
+-- the bits are the file of one image
+pub one_image : (bytes : List ℕ) (d : Description) (bits : List ℕ) (i j : Picture) → IsPlain d → IsImageOf bytes d bits i → IsImageOf bytes d bits j → i ≡ j
+one_image bytes d bits i j p h k = one i j (image_has_file bytes d bits i p h) (image_has_file bytes d bits j p k) (sym h.is ∙ k.is)
+
+loads_one : (name bytes : List ℕ) (d : Description) (bits : List ℕ) (goes went : List ℕ → List Asked → Work → Type 0) (xs ys : List Asked) (w v : Work) → IsPlain d
+    → ((words : List ℕ) → goes words xs w → went words ys v → w ≡ v) → Loads name bytes d bits goes xs w → Loads name bytes d bits went ys v → w ≡ v
+loads_one name bytes d bits goes went xs ys w v p h (NoImage none e) (NoImage no_other f) = both_end _ _ xs ys w v refl e f
+loads_one name bytes d bits goes went xs ys w v p h (NoImage none e) (Loaded i t f) = absurd (none i t)
+loads_one name bytes d bits goes went xs ys w v p h (Loaded i t f) (NoImage none e) = absurd (none i t)
+loads_one name bytes d bits goes went xs ys w v p h (Loaded i t f) (Loaded j u g) =
+    h j.words (subst (λ (z : Picture). goes z.words xs w) (one_image bytes d bits i j p t u) f) g
+
+runs_one : (x : List ℕ) (steps : ℕ) (d : Description) (words text : List ℕ) (xs ys : List Asked) (w v : Work) → IsPlain d
+    → RunsTo x steps d words text xs w → RunsTo x steps d words text ys v → w ≡ v
+runs_one x steps d words text xs ys w v p (Input line a e) (Input other b f) = let same : line ≡ other = cc (a, b) in both_end _ _ xs ys w v (ap (bad_input x) same) e f
+runs_one x steps d words text xs ys w v p (Input line a e) (Ran b r runs f) = absurd (cc (a, b))
+runs_one x steps d words text xs ys w v p (Ran a r runs e) (Input line b f) = absurd (cc (a, b))
+runs_one x steps d words text xs ys w v p (Ran a r runs e) (Ran b q goes f) = both_end _ _ xs ys w v (ap told_run (one_run d words steps _ r q p runs goes)) e f
+
+-- ---- any words
+
+comes_one : (answers : Answering) (form : Option Form) (xs ys : List Asked) (w v : Work) → AreAnswered answers 0 xs → AreAnswered answers 0 ys → ComesTo form xs w → ComesTo form ys v → w ≡ v
+comes_one answers None xs ys w v a b x y = both_end _ _ xs ys w v refl x y
+comes_one answers (Some (Asm d s i)) xs ys w v a b x y =
+    opens_one answers 0 d _ _ xs ys w v a b
+    (λ bytes more other c e. accepts_one d bytes _ _ more other w v
+    (λ tree k. simplifies_one _ d tree _ _ more other w v
+    (λ p plain. opens_one answers 1 s _ _ more other w v c e
+    (λ text rest last f g. text_one s i bytes p text rest last w v (λ ts m n j l. same_word p ts m n plain j l)))))
+    x y
+comes_one answers (Some (Run d i x n)) xs ys w v a b f g =
+    opens_one answers 0 d _ _ xs ys w v a b
+    (λ bytes more other c e. accepts_one d bytes _ _ more other w v
+    (λ tree k. simplifies_one _ d tree _ _ more other w v
+    (λ p plain. opens_one answers 1 i _ _ more other w v c e
+    (λ bits rest last h j. loads_one i bytes p bits _ _ rest last w v plain
+    (λ words. opens_one answers 2 x _ _ rest last w v h j
+    (λ text end stop l m. runs_one x n p words text end stop w v plain))))))
+    f g
+comes_one answers (Some (Check d)) xs ys w v a b x y = both_end _ _ xs ys w v refl x y
+comes_one answers (Some (Dis d i)) xs ys w v a b x y = both_end _ _ xs ys w v refl x y
+comes_one answers (Some (Cc d s i)) xs ys w v a b x y = both_end _ _ xs ys w v refl x y
+comes_one answers (Some (Ceval d s x n)) xs ys w v a b y z = both_end _ _ xs ys w v refl y z
+comes_one answers (Some (Demo k)) xs ys w v a b x y = both_end _ _ xs ys w v refl x y
+
+pub one_work : (answers : Answering) (form : Option Form) (w v : Work) → ComesOut answers form w → ComesOut answers form v → w ≡ v
+one_work answers form w v x y = comes_one answers form x.asked y.asked w v x.answered y.answered x.comes y.comes

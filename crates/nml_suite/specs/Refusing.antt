@@ -1,0 +1,186 @@
+-- For private contracts: what a refusal tells, what a step of a command refuses, and what the reading of its files comes to.
+use Rattle.std.specs.Prelude.{◌≡◌, ◌≤◌, ◌⊎◌, ℕ, List, [], ◌∷◌, ◌++◌, Option, Some, None, Result, Ok, Err, IsTrue, IsFalse}
+use Rattle.std.specs.Global.{Vec}
+use Rattle.nml_tree.specs.Description.{Description, description_of}
+use Rattle.nml_tree.specs.IsPlain.{word_width}
+use Rattle.nml_tree.specs.declared.tree.Desc.{Desc}
+use Rattle.nml_tree.specs.declared.fault.DescFault.{DescFault}
+use Rattle.nml_tree.specs.declared.rules.Plain.{Plain}
+use Rattle.image_file.specs.File.{Picture}
+use Rattle.image_file.specs.Seen.{picture_of}
+use Rattle.image_file.specs.declared.image.Image.{Image}
+use Rattle.asm_tool.specs.Assembly.{Assembles, FailsAt, is_fit}
+use Rattle.asm_tool.specs.PlainText.{lines}
+use Rattle.bit_sim.specs.Machine.{Runs, beginning}
+use Rattle.bit_sim.specs.Machine as machine
+use Rattle.nk_outside.specs.Count.{Rose}
+use Rattle.nk_outside.specs.Held.{SameElsewhere}
+use Rattle.nml_suite.specs.Answer.{AreNamed}
+use Rattle.nml_suite.specs.Coming.{EndsWith, IsImageOf, RunComesTo, written_image, first_input}
+use Rattle.nml_suite.specs.Described.{HasFault, IsAccepted, IsBuilt, Describes}
+use Rattle.nml_suite.specs.Reading.{Store, Reading, Got, Absent, Failed, TooLong, IsShort, Asked, IsRead, AreRead}
+use Rattle.nml_suite.specs.Reply.{Reply, starved, unread, write_failed, description_fault, not_built_file, no_match, bad_input, assembled, told_run}
+use Rattle.nml_suite.specs.Work.{Work, Written, telling, IsWriteCall, HasWritten}
+use Rattle.nml_suite.specs.declared.assemble.Assembled.{Assembled}
+use Rattle.nml_suite.specs.declared.purpose.Purpose.{Purpose}
+use Rattle.nml_suite.specs.declared.purpose.Purpose.TheVariants as purposes
+use Rattle.nml_suite.specs.declared.ready.Ready.{Ready}
+use Rattle.nml_suite.specs.declared.refusal.Refusal.{Refusal}
+use Rattle.nml_suite.specs.declared.refusal.Refusal.TheVariants as refusals
+
+abbrev pub refused : Refusal → Reply
+refused refusals.Memory = starved
+refused (refusals.Absent name) = unread name.now Absent
+refused (refusals.Failed name) = unread name.now Failed
+refused (refusals.TooLong name) = unread name.now TooLong
+refused (refusals.Unwritten name) = write_failed name.now
+refused (refusals.Description name fault) = description_fault name.now fault
+refused (refusals.NotBuilt name) = not_built_file name.now
+refused (refusals.NoMatch name line) = no_match name.now line
+refused (refusals.Input name line) = bad_input name.now line
+
+-- memory was wanted
+abbrev pub Wants : Refusal → Type 0
+Wants refusal = refused refusal ≡ starved
+
+-- ---- a row of reads, and what it comes to
+
+-- The files were read, and come to this; or memory was wanted.
+pub record Settles (before now : Store) (names : List (List ℕ)) (comes : List Asked → Work → Type 0) (work : Work) : Type 0 where
+  pub asked : List Asked
+  pub reads : AreRead before now asked
+  pub named : AreNamed asked names
+  pub is : comes asked work ⊎ (work ≡ telling starved)
+
+-- The first of the files were read; what the rest of them comes to, the whole comes to.
+pub record Arrives (before now : Store) (names rest : List (List ℕ)) (comes goes : List Asked → Work → Type 0) : Type 0 where
+  pub asked : List Asked
+  pub reads : AreRead before now asked
+  pub named : (more : List Asked) → AreNamed more rest → AreNamed (asked ++ more) names
+  pub leads : (more : List Asked) (work : Work) → goes more work → comes (asked ++ more) work
+
+-- ---- one file
+
+-- the read of this name gave no bytes, or memory was wanted for it
+pub record IsUnread (before now : Store) (name : List ℕ) (told : Reply) : Type 0 where
+  pub reading : Reading
+  pub read : IsRead before now name reading
+  pub is : (IsShort reading × (told ≡ unread name reading)) ⊎ (told ≡ starved)
+
+-- the file was read, or it gave no bytes
+abbrev pub IsLoaded : Store → Store → List ℕ → Result (Vec ℕ) Refusal → Type 0
+IsLoaded before now name (Ok bytes) = IsRead before now name (Got bytes.items)
+IsLoaded before now name (Err refusal) = IsUnread before now name (refused refusal)
+
+-- ---- the description
+
+-- the bytes of this name have a fault
+pub record IsFaulty (name bytes : List ℕ) (told : Reply) : Type 0 where
+  pub fault : DescFault
+  pub faulty : HasFault bytes fault
+  pub is : told ≡ description_fault name fault
+
+-- the bytes are accepted, or they have a fault, or memory was wanted
+abbrev pub IsReadAs : List ℕ → List ℕ → Result Desc Refusal → Type 0
+IsReadAs name bytes (Ok tree) = IsAccepted bytes tree
+IsReadAs name bytes (Err refusal) = Wants refusal ⊎ IsFaulty name bytes (refused refusal)
+
+-- the tree is the description, or none that is built, or memory was wanted
+abbrev pub IsDescribedBy : Purpose → List ℕ → Desc → Result Plain Refusal → Type 0
+IsDescribedBy purpose name tree (Ok p) = IsBuilt purpose tree (description_of p)
+IsDescribedBy purpose name tree (Err refusal) =
+    Wants refusal ⊎ ((refused refusal ≡ not_built_file name) × ((d : Description) → IsBuilt purpose tree d → ⊥))
+
+-- the bytes are accepted, and are no plain description that is built
+pub record IsNoDescription (purpose : Purpose) (name bytes : List ℕ) (told : Reply) : Type 0 where
+  pub tree : Desc
+  pub accepted : IsAccepted bytes tree
+  pub none : (d : Description) → IsBuilt purpose tree d → ⊥
+  pub is : told ≡ not_built_file name
+
+-- the bytes are the description; or they have a fault, or are none, or memory was wanted
+abbrev pub IsDescribed : Purpose → List ℕ → List ℕ → Result Plain Refusal → Type 0
+IsDescribed purpose name bytes (Ok p) = Describes purpose bytes (description_of p)
+IsDescribed purpose name bytes (Err refusal) =
+    Wants refusal ⊎ (IsFaulty name bytes (refused refusal) ⊎ IsNoDescription purpose name bytes (refused refusal))
+
+-- ---- `asm`
+
+-- the file that was made, under a name
+abbrev pub file_named : List ℕ → Option (Vec ℕ) → Option Written
+file_named name None = None
+file_named name (Some bytes) = Some (record { name = name; bytes = bytes.items })
+
+-- these are the words, their width, and the file of their image
+pub record IsMade (bytes : List ℕ) (d : Description) (words : List ℕ) (all : Assembled) : Type 0 where
+  pub words_are : all.image.words.items ≡ words
+  pub width_is : all.image.width ≡ word_width d.rules
+  pub file_is : (name : List ℕ) → file_named name all.file ≡ written_image name bytes d words
+
+-- the text doesn't fit
+pub record IsOtherText (d : Description) (name text : List ℕ) (told : Reply) : Type 0 where
+  pub other : IsFalse (is_fit d text)
+  pub is : told ≡ not_built_file name
+
+-- a line of the text has no match
+pub record IsBadLine (d : Description) (name text : List ℕ) (told : Reply) : Type 0 where
+  pub fit : IsTrue (is_fit d text)
+  pub line : ℕ
+  pub fails : FailsAt d (lines text) line
+  pub is : told ≡ no_match name line
+
+-- the text fits, and this was made of its words
+pub record IsWhole (bytes : List ℕ) (d : Description) (text : List ℕ) (all : Assembled) : Type 0 where
+  pub fit : IsTrue (is_fit d text)
+  pub words : List ℕ
+  pub assembles : Assembles d (lines text) words
+  pub made_of : IsMade bytes d words all
+
+-- the text of this name was assembled, or it isn't built, or a line fails, or memory was wanted
+abbrev pub IsAssembledText : List ℕ → Description → List ℕ → List ℕ → Result Assembled Refusal → Type 0
+IsAssembledText bytes d name text (Ok all) = IsWhole bytes d text all
+IsAssembledText bytes d name text (Err refusal) = Wants refusal ⊎ (IsOtherText d name text (refused refusal) ⊎ IsBadLine d name text (refused refusal))
+
+-- what comes of the words or a refusal
+abbrev pub settled : List ℕ → Result Assembled Refusal → Work
+settled image (Ok all) = record { file = file_named image all.file; reply = assembled all.image.width all.image.words.items }
+settled image (Err refusal) = telling (refused refusal)
+
+-- the file was written, where there is one; or its write failed; or memory was wanted for it
+abbrev pub IsStored : Store → Store → Option Written → Result (Unit {0}) Refusal → Type 0
+IsStored before now None (Ok done) = now ≡ before
+IsStored before now None (Err refusal) = ⊥
+IsStored before now (Some file) (Ok done) = HasWritten before now file
+IsStored before now (Some file) (Err refusal) =
+    IsWriteCall before now
+    × (((refused refusal ≡ write_failed file.name) × SameElsewhere file.name before.held now.held × Rose before.counts.write_faults now.counts.write_faults)
+    ⊎ (Wants refusal × (now.held ≡ before.held)))
+
+-- ---- `run`
+
+-- the bits are the image, or the file of this name isn't built, or memory was wanted
+abbrev pub IsFound : List ℕ → Description → List ℕ → List ℕ → Result Image Refusal → Type 0
+IsFound bytes d name bits (Ok i) = IsImageOf bytes d bits (picture_of i)
+IsFound bytes d name bits (Err refusal) =
+    Wants refusal ⊎ ((refused refusal ≡ not_built_file name) × ((i : Picture) → IsImageOf bytes d bits i → ⊥))
+
+-- no line of the input stands in the way, or the first that does is told
+abbrev pub IsBlankInput : List ℕ → List ℕ → Result (Unit {0}) Refusal → Type 0
+IsBlankInput name text (Ok done) = first_input 1 (lines text) ≡ None
+IsBlankInput name text (Err refusal) = (line : ℕ) × (first_input 1 (lines text) ≡ Some line) × (refused refusal ≡ bad_input name line)
+
+-- a run of these words, for at most so many steps, is told
+abbrev pub TellsRunOf : ℕ → Description → List ℕ → List Asked → Work → Type 0
+TellsRunOf steps d words asked work = (r : machine.Outcome) × Runs d words steps (beginning d) r × EndsWith (told_run r) asked work
+
+-- all three files were read, and a run may begin
+pub record IsReady (before now : Store) (description image input : List ℕ) (p : Plain) (i : Image) : Type 0 where
+  pub bytes : List ℕ
+  pub described : Describes purposes.Running bytes (description_of p)
+  pub arrives : (steps : ℕ)
+      → Arrives before now (description ∷ image ∷ input ∷ []) [] (RunComesTo description image input steps) (TellsRunOf steps (description_of p) i.words.items)
+
+abbrev pub RunSettles : Store → Store → List ℕ → List ℕ → List ℕ → Result Ready Refusal → Type 0
+RunSettles before now description image input (Ok r) = IsReady before now description image input r.plain r.image
+RunSettles before now description image input (Err refusal) =
+    (steps : ℕ) → Settles before now (description ∷ image ∷ input ∷ []) (RunComesTo description image input steps) (telling (refused refusal))

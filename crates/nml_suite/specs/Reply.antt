@@ -1,0 +1,99 @@
+-- What is told: a status and a text.
+use Rattle.std.specs.Prelude.{ℕ, zero, suc, List, [], ◌∷◌, ◌++◌, length, ℤ, codes}
+use Rattle.std.specs.Fmt.{decimal, signed_decimal}
+use Rattle.nk_base.specs.Hexadecimal.{hexadecimal, digits_of_word}
+use Rattle.bit_sim.specs.Machine.{Stop, Running, Halted, NoWord, BadWord}
+use Rattle.bit_sim.specs.Machine as machine
+use Rattle.nml_tree.specs.declared.fault.DescFault.{DescFault}
+use Rattle.nml_suite.specs.FaultText.{fault_text}
+use Rattle.nml_suite.specs.Reading.{Reading, Got, Absent, Failed, TooLong, Unread}
+use Rattle.nml_suite.specs.declared.status.Status.{Status}
+use Rattle.nml_suite.specs.declared.status.Status.TheVariants as statuses
+
+pub record Reply : Type 0 where
+  pub status : Status
+  pub text : List ℕ
+
+abbrev pub reply : Status → List ℕ → Reply
+reply status text = record { status = status; text = text }
+
+-- memory was wanted before there is a text
+abbrev pub starved : Reply
+starved = reply statuses.Memory []
+
+-- where the words match no form
+abbrev pub usage_line : List ℕ
+usage_line = codes "usage: check D, asm D S I, dis D I, run D I X n, cc D C I, ceval D C X n, demo k\n"
+
+-- a command that isn't built yet
+abbrev pub not_built : Reply
+not_built = reply statuses.NotBuilt (codes "not built\n")
+
+-- a description that has this fault
+abbrev pub description_fault : List ℕ → DescFault → Reply
+description_fault name fault = reply statuses.Description (name ++ codes ": " ++ fault_text fault ++ codes "\n")
+
+-- a file that isn't of the form that is built
+abbrev pub not_built_file : List ℕ → Reply
+not_built_file name = reply statuses.NotBuilt (name ++ codes ": not built\n")
+
+-- a file that gave no bytes
+abbrev pub unread : List ℕ → Reading → Reply
+unread name (Got bytes) = starved
+unread name Absent = reply statuses.Read (name ++ codes ": absent\n")
+unread name Failed = reply statuses.Read (name ++ codes ": read failed\n")
+unread name TooLong = reply statuses.TooLong (name ++ codes ": too long\n")
+unread name Unread = starved
+
+-- a file whose write failed
+abbrev pub write_failed : List ℕ → Reply
+write_failed name = reply statuses.Write (name ++ codes ": write failed\n")
+
+-- no instruction has the tokens of this line
+abbrev pub no_match : List ℕ → ℕ → Reply
+no_match name line = reply statuses.Source (name ++ codes ": S3 NoMatch " ++ decimal line ++ codes "\n")
+
+-- this line of an input isn't blank
+abbrev pub bad_input : List ℕ → ℕ → Reply
+bad_input name line = reply statuses.Input (name ++ codes ": Input " ++ decimal line ++ codes "\n")
+
+-- a word of so many bits, on a line
+abbrev pub word_line : ℕ → ℕ → List ℕ
+word_line width word = hexadecimal (digits_of_word width) word ++ codes "\n"
+
+abbrev pub word_lines : ℕ → List ℕ → List ℕ
+word_lines width [] = []
+word_lines width (word ∷ words) = word_line width word ++ word_lines width words
+
+-- how many words there are
+abbrev pub ok_line : ℕ → List ℕ
+ok_line count = codes "ok: " ++ decimal count ++ codes " words\n"
+
+abbrev pub assembled : ℕ → List ℕ → Reply
+assembled width words = reply statuses.Done (word_lines width words ++ ok_line (length words))
+
+-- an output in decimal, on a line
+abbrev pub output_line : ℤ → List ℕ
+output_line z = signed_decimal z ++ codes "\n"
+
+abbrev pub output_lines : List ℤ → List ℕ
+output_lines [] = []
+output_lines (z ∷ zs) = output_line z ++ output_lines zs
+
+-- how a run stopped, on a line
+abbrev pub stop_line : Stop → List ℕ
+stop_line Running = codes "running\n"
+stop_line (Halted code) = codes "halted " ++ decimal code ++ codes "\n"
+stop_line (NoWord place) = codes "no word " ++ decimal place ++ codes "\n"
+stop_line (BadWord place) = codes "bad word " ++ decimal place ++ codes "\n"
+
+abbrev pub stop_status : Stop → Status
+stop_status Running = statuses.Budget
+stop_status (Halted zero) = statuses.Done
+stop_status (Halted (suc code)) = statuses.Stopped
+stop_status (NoWord place) = statuses.NoWord
+stop_status (BadWord place) = statuses.BadWord
+
+-- a line for each output of a run, and one that tells how it stopped
+abbrev pub told_run : machine.Outcome → Reply
+told_run r = reply (stop_status r.stop) (output_lines r.out ++ stop_line r.stop)
