@@ -37,7 +37,7 @@ mod width;
 pub use attributes::{Action, Arg, Attribute, Attrs, Template};
 pub use check::is_plain;
 pub use expression::Expr;
-pub use fault::DescFault;
+pub use fault::{DescFault, Root};
 pub use keyword::is_keyword;
 pub use names::{Name, Number, Quoted};
 pub use operator::Bin;
