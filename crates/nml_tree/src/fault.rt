@@ -42,8 +42,9 @@ pub enum DescFault {
     Edge { rule: Text },
     /// N11: this is not declared.
     Root { what: Root },
-    /// N12: there are over 4,096 shapes of an instruction, or one is built of over 256 rules, or its action, written out, has over 1,024
-    /// parts: how many shapes there are, and the most rules and parts. A number above 1,000,000 is told as 1,000,000.
+    /// N12: there are over 4,096 shapes of an instruction, or one has over 256 rules and fields, or its action, written out, has over
+    /// 1,024 statements, operators and leaves: how many shapes there are, the most rules and fields, the largest action. A number above
+    /// 1,000,000 is told as 1,000,000.
     Shapes { count: u32, nodes: u32, size: u32 },
     /// N13: two instructions have one image, the least word that is one of both; `a` and `b` are their syntax. They are of the first two
     /// shapes that meet: the least first one, and the least second one to it.
