@@ -7,9 +7,9 @@ ghost use Rattle.plain_tree.specs.Description.{description_of, field_of};
 ghost use Rattle.plain_tree.specs.IsPlain.{IsPlain, AreRegs};
 
 use crate::first_line::first_line;
-use crate::word_image::{power_of_two, width};
 use crate::line::has_token;
 use crate::plain_text::is_plain_text;
+use crate::word_image::{power_of_two, width};
 use plain_tree::{Plain, PlainField};
 
 /// Whether the text is plain, and not too long for the description.

@@ -8,8 +8,8 @@ ghost use Rattle.plain_tree.specs.Description.{rule_of};
 ghost use Rattle.plain_tree.specs.IsPlain.{IsRule, IsFieldTy};
 ghost use Rattle.plain_tree.specs.LineToken.{Word, Number};
 
-use crate::word_image::power_of_two;
 use crate::line::Token;
+use crate::word_image::power_of_two;
 use nk_base::{Memory, Ty};
 use plain_tree::PlainRule;
 use std::alloc::Global;
