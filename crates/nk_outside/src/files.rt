@@ -1,4 +1,4 @@
-ghost use Rattle.std.specs.Prelude.{◌≡◌, ◌≤◌, IfOk, OnOk, IsErrOf};
+ghost use Rattle.std.specs.Prelude.{◌≡◌, ◌≢◌, ◌≤◌, Err, IfOk, OnOk, IsErrOf};
 ghost use Rattle.std.specs.declared.option.Option.{Option};
 ghost use Rattle.nk_outside.specs.Count.{Counts, counted, Rose, CountsFault};
 ghost use Rattle.nk_outside.specs.Held.{Names, Reads, Lacks, IsTooLong, SameElsewhere, Holds};
@@ -55,6 +55,8 @@ pub trait Files {
         ensures calls { (counts self.new).calls ≡ counted (counts self.old).calls }
         ensures failed { CountsFault (counts self.old).read_faults (counts self.new).read_faults (IsErrOf result ReadFault.Failed) }
         ensures absent { CountsFault (counts self.old).absents (counts self.new).absents (IsErrOf result ReadFault.Absent) }
+        ensures kept { result ≢ Err ReadFault.Failed → (counts self.new).read_faults ≡ (counts self.old).read_faults }
+        ensures found { result ≢ Err ReadFault.Absent → (counts self.new).absents ≡ (counts self.old).absents }
         ensures writes { (counts self.new).write_faults ≡ (counts self.old).write_faults };
 
     /// Puts the bytes under a name. In every case the other files are as before.
@@ -66,6 +68,7 @@ pub trait Files {
         ensures memory { IsErrOf result WriteFault.Memory → held self.new ≡ held self.old }
         ensures calls { (counts self.new).calls ≡ counted (counts self.old).calls }
         ensures failed { CountsFault (counts self.old).write_faults (counts self.new).write_faults (IsErrOf result WriteFault.Failed) }
+        ensures kept { result ≢ Err WriteFault.Failed → (counts self.new).write_faults ≡ (counts self.old).write_faults }
         ensures reads { (counts self.new).read_faults ≡ (counts self.old).read_faults }
         ensures absents { (counts self.new).absents ≡ (counts self.old).absents };
 }

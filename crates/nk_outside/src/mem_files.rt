@@ -1,4 +1,4 @@
-ghost use Rattle.std.specs.Prelude.{◌≡◌, ℕ, Some, IfOk, OnOk, OnErr, IsErrOf};
+ghost use Rattle.std.specs.Prelude.{◌≡◌, ◌≢◌, ℕ, Some, Err, IfOk, OnOk, OnErr, IsErrOf};
 ghost use Rattle.std.specs.Global.{Vec};
 ghost use Rattle.indexmap.specs.IndexMap.{insert_entry};
 ghost use Rattle.nk_base.specs.Text.{text_eq};
@@ -48,6 +48,8 @@ impl Files for MemFiles {
         ensures calls { (counts_of self.new).calls ≡ counted (counts_of self.old).calls }
         ensures failed { CountsFault (counts_of self.old).read_faults (counts_of self.new).read_faults (IsErrOf result ReadFault.Failed) }
         ensures absent { CountsFault (counts_of self.old).absents (counts_of self.new).absents (IsErrOf result ReadFault.Absent) }
+        ensures kept { result ≢ Err ReadFault.Failed → (counts_of self.new).read_faults ≡ (counts_of self.old).read_faults }
+        ensures found { result ≢ Err ReadFault.Absent → (counts_of self.new).absents ≡ (counts_of self.old).absents }
         ensures writes { (counts_of self.new).write_faults ≡ (counts_of self.old).write_faults }
         ensures answer { IsAnswer (read_answer (fails_next self.old) (names self.old name.now)) result }
         ensures leaves { self.new ≡ read_leaves (fails_next self.old) (names self.old name.now) self.old }
@@ -79,6 +81,7 @@ impl Files for MemFiles {
         ensures memory { IsErrOf result WriteFault.Memory → Some (names self.new) ≡ Some (names self.old) }
         ensures calls { (counts_of self.new).calls ≡ counted (counts_of self.old).calls }
         ensures failed { CountsFault (counts_of self.old).write_faults (counts_of self.new).write_faults (IsErrOf result WriteFault.Failed) }
+        ensures kept { result ≢ Err WriteFault.Failed → (counts_of self.new).write_faults ≡ (counts_of self.old).write_faults }
         ensures reads { (counts_of self.new).read_faults ≡ (counts_of self.old).read_faults }
         ensures absents { (counts_of self.new).absents ≡ (counts_of self.old).absents }
         ensures listed { FailsWhere (fails_next self.old) result }

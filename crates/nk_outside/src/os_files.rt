@@ -139,6 +139,7 @@ impl<R: rt::Files> Files for OsFiles<R> {
         ensures others { SameElsewhere name.now None None }
         ensures calls { self.new.calls ≡ counted self.old.calls }
         ensures failed { CountsFault self.old.write_faults self.new.write_faults (IsErrOf result WriteFault.Failed) }
+        ensures kept { result ≢ Err WriteFault.Failed → self.new.write_faults ≡ self.old.write_faults }
         ensures reads { self.new.read_faults ≡ self.old.read_faults }
         ensures absents { self.new.absents ≡ self.old.absents }
         ensures fault { OnErr result (result ≡ Err WriteFault.Failed) }
