@@ -78,14 +78,3 @@ big_endian_more (suc k) n h =
 pub pushed : (xs ys zs : List ℕ) (k n : ℕ) → 0 < k → ys ≡ xs ++ big_endian (k - 1) (n / 256) → zs ≡ ys ++ n % 256 ∷ [] → zs ≡ xs ++ big_endian k n
 pushed xs ys zs k n h a b =
     b ∙ ap (λ (t : List ℕ). t ++ n % 256 ∷ []) a ∙ append_assoc xs (big_endian (k - 1) (n / 256)) (n % 256 ∷ []) ∙ ap (λ (t : List ℕ). xs ++ t) (sym (big_endian_more k n h))
-
--- a number of at most seven bytes
-pub seven_bytes : (i n : ℕ) → i < 8 → n < 256 ^ i → n < 2 ^ 56
-seven_bytes i n h b = omega (arith, pow_mono {i = 8 * i} {j = 56} (omega arith), bytes_bits i)
-
--- a power that fits is not cut
-pub limit_is : (width : ℕ) → width ≤ 64 → (1 * 2 ^ width) % 340282366920938463463374607431768211456 ≡ 2 ^ width
-limit_is width h = omega (arith, pow_mono {i = width} {j = 64} h)
-
-pub most_is : (bits : ℕ) → bits ≤ 16 → (1 * 2 ^ bits) % 4294967296 ≡ 2 ^ bits
-most_is bits h = omega (arith, pow_mono {i = bits} {j = 16} h)

@@ -1,4 +1,3 @@
 pub mod File
 pub mod Seen
-pub mod Parts
 pub mod Sample

@@ -2,7 +2,7 @@
 use Rattle.std.proofs.Common.{◌≡◌, refl, sym, ◌∙◌, ap, subst, ℕ, suc, ◌+◌, ◌<◌, List, [], ◌∷◌, ◌++◌, append_assoc, map, length, get_or, drop, drop-cons, add-one, flat_map, take, ◌-◌, length-append, arith}
 use Rattle.std.proofs.Math.Seq.{take-append_seam}
 use Rattle.nml_tree.specs.Symbol.{Symbol}
-use Rattle.nml_tree.specs.Attribute.{each_spaced}
+use Rattle.nml_tree.specs.Joined.{each_spaced}
 use Rattle.nml_tree.specs.Joined.{symbol_text, joined}
 use Rattle.nml_tree.specs.Ended.{ended}
 

@@ -1,17 +1,7 @@
 pub mod SameText
-pub mod Apart
-pub mod Cuts
-pub mod Pieces
-pub mod Plainness
-pub mod Places
-pub mod Left
-pub mod Samples
-pub mod WordWidth
-pub mod Room
 pub mod FormulaLaws
 pub mod BlockLaws
 pub mod Drops
-pub mod PlaceMaps
 pub mod Back
 pub mod SampleTrees
 pub mod EndedLaws

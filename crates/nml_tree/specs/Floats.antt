@@ -1,5 +1,5 @@
 -- Whether a description has a type `float`, and where.
-use Rattle.std.specs.Prelude.{ℕ, List, [], ◌∷◌, Option, Some, None, Contains, flat_map, map}
+use Rattle.std.specs.Prelude.{ℕ, List, [], ◌∷◌, Option, Some, None, flat_map, map}
 use Rattle.nml_tree.specs.declared.tree.TypeExpr.{TypeExpr}
 use Rattle.nml_tree.specs.declared.tree.TypeExpr.TheVariants as type_expr
 use Rattle.nml_tree.specs.declared.tree.Pars.{Pars}
@@ -30,7 +30,3 @@ float_place _ = []
 -- the places of the word `float`, in the text's order
 abbrev pub float_places : Desc → List ℕ
 float_places d = flat_map float_place (flat_map item_types d.items)
-
--- the description has a type `float` at this place
-abbrev pub HasFloat : Desc → ℕ → Type 0
-HasFloat d at = Contains (float_places d) at

@@ -1,8 +1,17 @@
--- The text that symbols come to with one blank between two.
+-- Texts with one blank between two, and so the text that symbols come to.
 use Rattle.std.specs.Prelude.{ℕ, List, [], ◌∷◌, ◌++◌, map}
 use Rattle.std.specs.Fmt.{decimal}
 use Rattle.nml_tree.specs.Symbol.{Symbol, Fixed, Named, Number, Quoted}
-use Rattle.nml_tree.specs.Attribute.{spaced}
+
+-- each of these behind a blank
+abbrev pub each_spaced : List (List ℕ) → List ℕ
+each_spaced [] = []
+each_spaced (p ∷ ps) = 32 ∷ p ++ each_spaced ps
+
+-- these with a blank between two
+abbrev pub spaced : List (List ℕ) → List ℕ
+spaced [] = []
+spaced (p ∷ ps) = p ++ each_spaced ps
 
 -- a number in decimal, a string between its quotes, a keyword, a mark or a name by its letters
 abbrev pub symbol_text : Symbol → List ℕ

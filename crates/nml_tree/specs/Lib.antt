@@ -1,17 +1,4 @@
-pub mod Description
-pub mod Attribute
 pub mod Keyword
-pub mod IsPlain
-pub mod PlainTree
-pub mod Found
-pub mod LineToken
-pub mod Instruction
-pub mod SampleMachine
-pub mod SamplePlain
-pub mod Checked
-pub mod Cells
-pub mod Effect
-pub mod SeenWrites
 pub mod Symbol
 pub mod Formula
 pub mod Block

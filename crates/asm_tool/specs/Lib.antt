@@ -1,9 +1,0 @@
-pub mod PlainText
-pub mod Assembly
-pub mod Answer
-pub mod Seen
-pub mod Runs
-pub mod Fronts
-pub mod FirstLine
-pub mod Template
-pub mod Sample

@@ -1,0 +1,11 @@
+pub mod Apart
+pub mod Cuts
+pub mod Pieces
+pub mod Plainness
+pub mod Places
+pub mod Left
+pub mod Samples
+pub mod WordWidth
+pub mod Room
+pub mod LoopEnds
+pub mod PlaceMaps

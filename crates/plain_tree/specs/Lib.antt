@@ -1,0 +1,13 @@
+pub mod Description
+pub mod Attribute
+pub mod IsPlain
+pub mod PlainTree
+pub mod Found
+pub mod LineToken
+pub mod Instruction
+pub mod SampleMachine
+pub mod SamplePlain
+pub mod Checked
+pub mod Cells
+pub mod Effect
+pub mod SeenWrites
