@@ -4,8 +4,8 @@ use Rattle.std.specs.Prelude.{IsTrue, nat_lt}
 use Rattle.std.proofs.lemmas.Bool.Decides.{nat_tests}
 use Rattle.std.proofs.lemmas.List.{length-map}
 use Rattle.std.specs.Global.{Vec}
-use Rattle.nml_tree.specs.Description.{description_of, field_of}
-use Rattle.nml_tree.specs.IsPlain.{IsPlain}
+use Rattle.plain_tree.specs.Description.{description_of, field_of}
+use Rattle.plain_tree.specs.IsPlain.{IsPlain}
 use Rattle.nml_suite.specs.Answer.{Answers, Moment, IsNamed}
 use Rattle.nml_suite.specs.Cause.{IsOther}
 use Rattle.nml_suite.specs.Coming.{ComesTo}

@@ -1,9 +1,9 @@
 -- How the steps of a command are put together: the first files lead to what the rest comes to.
 use Rattle.std.proofs.Common.{◌≡◌, ◌⊎◌, inl, inr, ℕ, List, [], ◌∷◌, ◌++◌, Option, Some, None, Result, Ok, Err, refl, sym, ap, ◌∙◌, subst, append_assoc}
-use Rattle.nml_tree.specs.Description.{Description}
+use Rattle.plain_tree.specs.Description.{Description}
 use Rattle.image_file.specs.Seen.{picture_of}
 use Rattle.image_file.specs.declared.image.Image.{Image}
-use Rattle.asm_tool.specs.PlainText.{lines}
+use Rattle.plain_tools.specs.PlainText.{lines}
 use Rattle.nml_suite.specs.Answer.{AreNamed}
 use Rattle.nml_suite.specs.Coming.{Opens, Short, Opened, Accepts, Faulty, Accepted, Simplifies, Other, Plain, AssemblesTo, NotPlain, NoMatch, Words, Loads, NoImage, Loaded, RunsTo, Input, Ran, IsImageOf, first_input}
 use Rattle.nml_suite.specs.Described.{Describes}
@@ -14,7 +14,7 @@ use Rattle.nml_suite.specs.Work.{Work, telling}
 use Rattle.nml_suite.specs.declared.assemble.Assembled.{Assembled}
 use Rattle.nml_suite.specs.declared.purpose.Purpose.{Purpose}
 use Rattle.nml_suite.specs.declared.refusal.Refusal.{Refusal}
-use Rattle.nml_suite.proofs.Reads.{reads_append}
+use Rattle.nml_suite.proofs.ReadRows.{reads_append}
 
 led : (C G : Type 0) (w : Work) → (G → C) → G ⊎ (w ≡ telling starved) → C ⊎ (w ≡ telling starved)
 led C G w f (inl g) = inl (f g)

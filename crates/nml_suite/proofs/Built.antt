@@ -4,11 +4,11 @@ use Rattle.std.specs.Prelude.{nat_eq, ◌&&◌, IsTrue, IsFalse, Option, Some, N
 use Rattle.std.proofs.lemmas.Bool.{false≢true}
 use Rattle.std.specs.Option.{option_map}
 use Rattle.std.specs.List.{list_all}
-use Rattle.nml_tree.specs.Description.{rule_of, field_of, description_of}
-use Rattle.nml_tree.specs.PlainTree.{IsPlainTree}
-use Rattle.nml_tree.specs.declared.rules.Plain.{Plain}
-use Rattle.nml_tree.specs.declared.rules.PlainField.{PlainField}
-use Rattle.nml_tree.specs.declared.rules.PlainRule.{PlainRule}
+use Rattle.plain_tree.specs.Description.{rule_of, field_of, description_of}
+use Rattle.plain_tree.specs.PlainTree.{IsPlainTree}
+use Rattle.plain_tree.specs.declared.rules.Plain.{Plain}
+use Rattle.plain_tree.specs.declared.rules.PlainField.{PlainField}
+use Rattle.plain_tree.specs.declared.rules.PlainRule.{PlainRule}
 use Rattle.nml_tree.specs.declared.tree.Desc.{Desc}
 use Rattle.nml_suite.specs.Described.{is_built}
 use Rattle.nml_suite.specs.Reply.{not_built_file}

@@ -3,12 +3,12 @@ use Rattle.std.proofs.Common.{◌≡◌, ◌⊎◌, ◌≤◌, ◌+◌, ℕ, zer
 use Rattle.std.specs.Prelude.{slice_get}
 use Rattle.nk_outside.specs.Held.{Reads}
 use Rattle.nk_outside.specs.Taken.{Took}
-use Rattle.nml_tree.specs.Description.{Description}
+use Rattle.plain_tree.specs.Description.{Description}
 use Rattle.nml_tree.specs.declared.tree.Desc.{Desc}
 use Rattle.image_file.specs.File.{Picture}
-use Rattle.bit_sim.specs.Machine.{Stop, Running, Halted, NoWord, BadWord}
-use Rattle.bit_sim.specs.Machine as machine
-use Rattle.asm_tool.specs.PlainText.{lines}
+use Rattle.plain_tools.specs.Machine.{Stop, Running, Halted, NoWord, BadWord}
+use Rattle.plain_tools.specs.Machine as machine
+use Rattle.plain_tools.specs.PlainText.{lines}
 use Rattle.nml_suite.specs.Answer.{Moment, Answers}
 use Rattle.nml_suite.specs.Cause.{HasCause, HasShortFile, HasBytes, HasDescription, HasOtherDescription, HasText, HasMachine, HasImage, IsNotBuilt, Command, Assembled, Text, Machine, Image, IsUsage}
 use Rattle.nml_suite.specs.Coming.{EndsWith, Opens, Short, Opened, Accepts, Faulty, Accepted, Simplifies, Other, Plain, AssemblesTo, NotPlain, NoMatch, Words, Loads, NoImage, Loaded, RunsTo, Input, Ran, IsImageOf, AsmComesTo, RunComesTo, ComesTo, first_input}
@@ -25,7 +25,7 @@ use Rattle.nml_suite.specs.declared.purpose.Purpose.TheVariants as purposes
 use Rattle.nml_suite.specs.declared.status.Status.{Status}
 use Rattle.nml_suite.specs.declared.status.Status.TheVariants as statuses
 use Rattle.nml_suite.proofs.Filing.{calls_without, counted_by, leaves_of}
-use Rattle.nml_suite.proofs.Reads.{Later, causes, reads_later}
+use Rattle.nml_suite.proofs.ReadRows.{Later, causes, reads_later}
 
 -- a call that told the whole text has its cause
 abbrev Owes : Moment → Moment → Option Form → Reply → Type 0
@@ -114,7 +114,7 @@ asm_owes b n d s i xs w calls c saved =
 
 -- ---- `run`
 
-stop_owes : (b n : Moment) (form : Option Form) (l : HasImage b form) (r : machine.Outcome) (stop : Stop) → first_input 1 (lines l.input.bytes) ≡ None
+stop_owes : (b n : Moment) (form : Option Form) (l : HasImage b form) (r : machine.RunOutcome) (stop : Stop) → first_input 1 (lines l.input.bytes) ≡ None
     → machine.Runs l.files.description.plain l.picture.words l.files.steps (machine.beginning l.files.description.plain) r → r.stop ≡ stop → Took b.taken n.taken (told_run r).text
     → HasCause b n form (stop_status stop)
 stop_owes b n form l r Running blank runs e t = record { loaded = l; blank = blank; run = r; runs = runs; stop = e; told = t }
@@ -195,7 +195,7 @@ cause_of b n form status a =
     let k = counted_by a.read n.store a.work a.told a.filed in
     status_owes b n form a.told status
     (filed_owes b n a.read form a.work a.told l
-    (λ saved. kept_owes b n form a.asked a.work (λ e. calls_without b.store a.read n.store a.asked a.work a.told a.reads a.filed e)
+    (λ saved. kept_owes b n form a.asked a.work (λ e. omega (arith, calls_without b.store a.read n.store a.asked a.work a.told a.reads a.filed e))
     (causes b.store a.read n.store a.asked (omega (arith, k.read_faults)) (omega (arith, k.absents)) a.reads) saved a.comes)
     a.filed)
     a.puts

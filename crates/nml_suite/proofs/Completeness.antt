@@ -20,7 +20,7 @@ use Rattle.nml_suite.specs.declared.status.Status.{Status}
 use Rattle.nml_suite.specs.declared.status.Status.TheVariants as statuses
 use Rattle.nml_suite.proofs.Chain.{NoneUnread, sound}
 use Rattle.nml_suite.proofs.Filing.{counted_by, leaves_of}
-use Rattle.nml_suite.proofs.Reads.{Later, causes, reads_later}
+use Rattle.nml_suite.proofs.ReadRows.{Later, causes, reads_later}
 
 limit_above : (bytes : List ℕ) → length bytes ≤ file_limit → reading_of (Some bytes) ≡ Got bytes
 limit_above bytes h = let e : nat_le (length bytes) file_limit ≡ true = grind (arith, nat_tests) in ap (λ b. if b then Got bytes else TooLong) e

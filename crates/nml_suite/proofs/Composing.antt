@@ -1,15 +1,15 @@
 -- The two commands compose.
 use Rattle.std.proofs.Common.{◌≡◌, ℕ, List, [], ◌∷◌, Option, Some, None, refl, sym, ap, ◌∙◌, subst}
 use Rattle.std.specs.Prelude.{Bool, true, false, if◌then◌else◌, IsTrue}
-use Rattle.nml_tree.specs.Description.{Description}
-use Rattle.nml_tree.specs.PlainTree.{IsPlainTree}
+use Rattle.plain_tree.specs.Description.{Description}
+use Rattle.plain_tree.specs.PlainTree.{IsPlainTree}
 use Rattle.nml_tree.specs.declared.tree.Desc.{Desc}
 use Rattle.image_file.specs.File.{Picture, file}
-use Rattle.asm_tool.specs.Assembly.{Assembles, is_fit}
-use Rattle.asm_tool.specs.PlainText.{lines}
-use Rattle.asm_tool.proofs.AssembledWords.{words_named, words_fit}
-use Rattle.bit_sim.specs.Machine.{beginning}
-use Rattle.bit_sim.proofs.HasOutcome.{has_outcome}
+use Rattle.plain_tools.specs.Assembly.{Assembles, is_fit}
+use Rattle.plain_tools.specs.PlainText.{lines}
+use Rattle.plain_tools.proofs.AssembledWords.{words_named, words_fit}
+use Rattle.plain_tools.specs.Machine.{beginning}
+use Rattle.plain_tools.proofs.HasOutcome.{has_outcome}
 use Rattle.nml_suite.specs.Coming.{EndsWith, Opens, Short, Opened, Accepts, Faulty, Accepted, Simplifies, Other, Plain, AssemblesTo, NotPlain, NoMatch, Words, Loads, NoImage, Loaded, RunsTo, Input, Ran, IsImageOf, AsmComesTo, RunComesTo, picture}
 use Rattle.nml_suite.specs.Composed.{Makes, IsBlank, RunsText}
 use Rattle.nml_suite.specs.Described.{IsAccepted, IsBuilt, Describes, has_pc}

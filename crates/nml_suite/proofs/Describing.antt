@@ -3,7 +3,7 @@ use Rattle.std.proofs.Common.{◌≡◌, inl, inr, List, ℕ, Result, Ok, Err, s
 use Rattle.std.specs.Prelude.{Bool, true, false, if◌then◌else◌}
 use Rattle.nml_tree.specs.declared.fault.DescFault.{DescFault}
 use Rattle.nml_tree.specs.declared.fault.DescFault.TheVariants as faults
-use Rattle.nml_tree.specs.declared.rules.Plain.{Plain}
+use Rattle.plain_tree.specs.declared.rules.Plain.{Plain}
 use Rattle.nml_tree.specs.declared.tree.Desc.{Desc}
 use Rattle.nml_suite.specs.Described.{HasFault, is_memory}
 use Rattle.nml_suite.specs.Refusing.{refused, IsDescribed, IsReadAs, IsDescribedBy}

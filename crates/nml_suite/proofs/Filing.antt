@@ -7,7 +7,7 @@ use Rattle.nml_suite.specs.Files.{KeepsFiles, Leaves, LeavesBut, count_of}
 use Rattle.nml_suite.specs.Reading.{Store, Asked, AreRead}
 use Rattle.nml_suite.specs.Reply.{Reply}
 use Rattle.nml_suite.specs.Work.{Work, Written, IsWriteCall, IsSaved, Filed, Kept, Failed, Starved}
-use Rattle.nml_suite.proofs.Reads.{Later, counted_once, reads_later, reads_calls}
+use Rattle.nml_suite.proofs.ReadRows.{Later, counted_once, reads_later, reads_calls}
 
 -- how many calls a write is
 abbrev pub writes : Option Written → ℕ

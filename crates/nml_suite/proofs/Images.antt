@@ -5,8 +5,8 @@ use Rattle.std.specs.Int.{byte_at, bytes_high_first, to_be_bytes, w32}
 use Rattle.std.specs.List.{AllByRecursion}
 use Rattle.sha2.specs.Sha256.{digest_bytes, final_hash, initial_hash_256, sha256}
 use Rattle.sha2.proofs.Facts256.{length-sha256}
-use Rattle.nml_tree.specs.Description.{Description}
-use Rattle.nml_tree.specs.IsPlain.{IsPlain, word_width}
+use Rattle.plain_tree.specs.Description.{Description}
+use Rattle.plain_tree.specs.IsPlain.{IsPlain, word_width}
 use Rattle.image_file.specs.File.{HasFile}
 use Rattle.nml_suite.specs.Coming.{picture}
 

@@ -1,8 +1,8 @@
 -- Bytes have one fault, or one tree and no fault, and a tree is one plain description.
 use Rattle.std.proofs.Common.{◌≡◌, ◌∙◌, ap, sym, subst, ℕ, List, [], ◌∷◌}
-use Rattle.nml_tree.specs.Description.{Description}
+use Rattle.plain_tree.specs.Description.{Description}
 use Rattle.nml_tree.specs.Floats.{float_places}
-use Rattle.nml_tree.specs.PlainTree.{IsPlainTree}
+use Rattle.plain_tree.specs.PlainTree.{IsPlainTree}
 use Rattle.nml_tree.specs.declared.tree.Desc.{Desc}
 use Rattle.nml_tree.specs.declared.fault.DescFault.{DescFault}
 use Rattle.nml_tree.specs.declared.fault.DescFault.TheVariants as faults

@@ -1,15 +1,15 @@
 -- However the reads are answered, words come to one thing alone.
 use Rattle.std.proofs.Common.{◌≡◌, ℕ, suc, List, [], ◌∷◌, Option, Some, None, refl, sym, ap, ◌∙◌, subst, arith}
-use Rattle.nml_tree.specs.Description.{Description}
-use Rattle.nml_tree.specs.IsPlain.{IsPlain}
+use Rattle.plain_tree.specs.Description.{Description}
+use Rattle.plain_tree.specs.IsPlain.{IsPlain}
 use Rattle.nml_tree.specs.declared.tree.Desc.{Desc}
 use Rattle.image_file.specs.File.{Picture, Init, HasFile}
 use Rattle.image_file.proofs.OneFile.{one}
-use Rattle.asm_tool.specs.PlainText.{lines}
-use Rattle.asm_tool.proofs.AssembledWords.{pc_numbers}
-use Rattle.asm_tool.proofs.Determined.{HasOneWord, one_assembly, none_fails, one_failure, both}
-use Rattle.asm_tool.proofs.Instructions.{same_word}
-use Rattle.bit_sim.proofs.OneRun.{one_run}
+use Rattle.plain_tools.specs.PlainText.{lines}
+use Rattle.plain_tools.proofs.AssembledWords.{pc_numbers}
+use Rattle.plain_tools.proofs.Determined.{HasOneWord, one_assembly, none_fails, one_failure, both}
+use Rattle.plain_tools.proofs.Instructions.{same_word}
+use Rattle.plain_tools.proofs.OneRun.{one_run}
 use Rattle.nml_suite.specs.Coming.{EndsWith, Opens, Short, Opened, Accepts, Faulty, Accepted, Simplifies, Other, Plain, AssemblesTo, NotPlain, NoMatch, Words, Loads, NoImage, Loaded, RunsTo, Input, Ran, IsImageOf, ComesTo, picture, made}
 use Rattle.nml_suite.specs.Complete.{Answering, AreAnswered, ComesOut}
 use Rattle.nml_suite.specs.Described.{IsAccepted, IsBuilt}

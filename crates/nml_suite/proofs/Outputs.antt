@@ -6,13 +6,13 @@ use Rattle.nk_outside.specs.Taken.{Took, TookFront}
 use Rattle.nk_outside.proofs.Pieces.{took_append, front_after, front_of_first}
 use Rattle.nk_outside.specs.declared.files.WriteFault.{WriteFault}
 use Rattle.nk_outside.specs.declared.files.WriteFault.TheVariants as faults
-use Rattle.nml_tree.specs.Description.{Description, description_of}
-use Rattle.nml_tree.specs.IsPlain.{IsPlain}
-use Rattle.bit_sim.specs.Machine.{Machine, Outcome, Runs, Simulator, IsStep, beginning, put_before}
-use Rattle.bit_sim.specs.Machine as machine
-use Rattle.bit_sim.specs.declared.step.Step.{Step}
-use Rattle.bit_sim.specs.declared.step.Step.TheVariants as steps
-use Rattle.bit_sim.proofs.HasOutcome.{step_is_no_want, has_outcome}
+use Rattle.plain_tree.specs.Description.{Description, description_of}
+use Rattle.plain_tree.specs.IsPlain.{IsPlain}
+use Rattle.plain_tools.specs.Machine.{Machine, RunOutcome, Runs, Simulator, IsStep, beginning, put_before}
+use Rattle.plain_tools.specs.Machine as machine
+use Rattle.plain_tools.specs.declared.step.Step.{Step}
+use Rattle.plain_tools.specs.declared.step.Step.TheVariants as steps
+use Rattle.plain_tools.proofs.HasOutcome.{step_is_no_want, has_outcome}
 use Rattle.nml_suite.specs.Ended.{CountsPuts, Ends}
 use Rattle.nml_suite.specs.Reply.{output_line, output_lines, stop_line, stop_status, told_run}
 use Rattle.nml_suite.specs.Running.{PutsOutputs, PutsCutOutputs, PutsRun, PutsCutRun, TellsRun, opened, output_text, put_by, stop_after}
@@ -50,7 +50,7 @@ pub record SoFar (start now : Simulator) (bound left : ℕ) (old new : Option (L
   pub words : now.words ≡ start.words
   pub out : List ℤ
   pub took : Took old new (output_lines out)
-  pub goes_on : (rest : Outcome) → Runs start.description start.words left now.machine rest
+  pub goes_on : (rest : RunOutcome) → Runs start.description start.words left now.machine rest
       → Runs start.description start.words bound start.machine (record { out = out ++ rest.out; stop = rest.stop })
 
 -- in a turn of the bound
@@ -82,7 +82,7 @@ step_at start now next bound left a b step f s =
 -- a run goes on after a step that went
 after : (start now next : Simulator) (bound left : ℕ) (a b : Option (List ℕ)) (step : Step) (f : SoFar start now bound (suc left) a b)
     → IsStep start.description start.words now.machine next.machine step → IfSome (stop_after step) (λ stop. ⊥)
-    → (rest : Outcome) → Runs start.description start.words left next.machine rest
+    → (rest : RunOutcome) → Runs start.description start.words left next.machine rest
     → Runs start.description start.words bound start.machine (record { out = (f.out ++ option_to_list (put_by step)) ++ rest.out; stop = rest.stop })
 after start now next bound left a b (steps.Went out took) f s e rest r =
     subst (λ (t : List ℤ). Runs start.description start.words bound start.machine (record { out = t; stop = rest.stop }))
@@ -215,17 +215,17 @@ ends_alike faults.Failed x y b c g h s e = e
 ends_alike faults.Memory x y b c g h s e = e
 
 -- what a fault does to the count doesn't hang on what it stands for
-counts_alike : {A B : Type 0} (fault : WriteFault) (f g : ℕ) → CountsPuts {A} f g (Err fault) → CountsPuts {B} f g (Err fault)
-counts_alike faults.Failed f g c = c
-counts_alike faults.Memory f g c = c
+counts_alike : (A B : Type 0) (fault : WriteFault) (f g : ℕ) → CountsPuts {A = A} f g (Err fault) → CountsPuts {A = B} f g (Err fault)
+counts_alike A B faults.Failed f g c = c
+counts_alike A B faults.Memory f g c = c
 
 -- a run whose text was cut is told
 pub tells_cut : (s : Simulator) (bound : ℕ) (a b c : Option (List ℕ)) (f g h : ℕ) (fault : WriteFault) (any status : Status) → PutsCutRun s bound a b
-    → CountsPuts {Status} f g (Err fault) → Ends (Err fault) any b c g h status → TellsRun s bound a c f h status
+    → CountsPuts {A = Status} f g (Err fault) → Ends (Err fault) any b c g h status → TellsRun s bound a c f h status
 tells_cut s bound a b c f g h fault any status r counts e = record {
   run = r.run;
   runs = r.runs;
-  told = told_by (told_run r.run) a b c f g h (Err fault) status tt r.took (counts_alike fault f g counts) (ends_alike fault any (told_run r.run).status b c g h status e);
+  told = told_by (told_run r.run) a b c f g h (Err fault) status tt r.took (counts_alike Status (Unit {0}) fault f g counts) (ends_alike fault any (told_run r.run).status b c g h status e);
 }
 
 -- a run whose text was taken whole is told

@@ -14,7 +14,7 @@ use Rattle.nml_suite.specs.declared.status.Status.{Status}
 use Rattle.nml_suite.specs.declared.status.Status.TheVariants as statuses
 use Rattle.nml_suite.proofs.Chain.{sound}
 use Rattle.nml_suite.proofs.Filing.{counted_by, calls_at_most, filed_but, leaves_of}
-use Rattle.nml_suite.proofs.Reads.{Later, causes, reads_later}
+use Rattle.nml_suite.proofs.ReadRows.{Later, causes, reads_later}
 
 -- a status before the write comes without one
 refusal_of : (o : Reply) (t u : Option (List ℕ)) (f g : ℕ) (s : Status) → IsRefusal s → Told o t u f g s → IsRefusal o.status

@@ -3,15 +3,15 @@ use Rattle.std.specs.Prelude.{◌≡◌, ◌⊎◌, ℕ, suc, ◌+◌, ◌≤◌
 use Rattle.nk_outside.specs.Count.{Rose}
 use Rattle.nk_outside.specs.Held.{Reads, Lacks, IsTooLong}
 use Rattle.nk_outside.specs.Taken.{Took}
-use Rattle.nml_tree.specs.Description.{Description}
-use Rattle.nml_tree.specs.IsPlain.{word_width}
+use Rattle.plain_tree.specs.Description.{Description}
+use Rattle.plain_tree.specs.IsPlain.{word_width}
 use Rattle.nml_tree.specs.declared.tree.Desc.{Desc}
 use Rattle.nml_tree.specs.declared.fault.DescFault.{DescFault}
 use Rattle.image_file.specs.File.{Picture}
-use Rattle.asm_tool.specs.Assembly.{Assembles, FailsAt, is_fit}
-use Rattle.asm_tool.specs.PlainText.{lines}
-use Rattle.bit_sim.specs.Machine.{Runs, beginning, Stop, Running, Halted, NoWord, BadWord}
-use Rattle.bit_sim.specs.Machine as machine
+use Rattle.plain_tools.specs.Assembly.{Assembles, FailsAt, is_fit}
+use Rattle.plain_tools.specs.PlainText.{lines}
+use Rattle.plain_tools.specs.Machine.{Runs, beginning, Stop, Running, Halted, NoWord, BadWord}
+use Rattle.plain_tools.specs.Machine as machine
 use Rattle.nml_suite.specs.Answer.{Moment}
 use Rattle.nml_suite.specs.Coming.{IsImageOf, first_input, made}
 use Rattle.nml_suite.specs.Described.{HasFault, IsAccepted, IsBuilt, Describes}
@@ -171,7 +171,7 @@ pub record HasBadInput (before now : Moment) (form : Option Form) : Type 0 where
 pub record HasRun (before now : Moment) (form : Option Form) (stops : Stop → Type 0) : Type 0 where
   pub loaded : HasImage before form
   pub blank : first_input 1 (lines loaded.input.bytes) ≡ None
-  pub run : machine.Outcome
+  pub run : machine.RunOutcome
   pub runs : Runs loaded.files.description.plain loaded.picture.words loaded.files.steps (beginning loaded.files.description.plain) run
   pub stop : stops run.stop
   pub told : Took before.taken now.taken (told_run run).text

@@ -4,15 +4,16 @@ use Rattle.std.specs.Prelude.{◌≡◌, ℕ, ◌+◌, ◌^◌, List, [], ◌∷
 use Rattle.std.specs.List.{list_all}
 use Rattle.sha2.specs.Sha256.{sha256}
 use Rattle.nk_base.specs.Byte.{is_blank}
-use Rattle.nml_tree.specs.Description.{Description}
-use Rattle.nml_tree.specs.IsPlain.{word_width, pc_width}
+use Rattle.plain_tree.specs.Description.{Description}
+use Rattle.plain_tree.specs.IsPlain.{word_width, pc_width}
 use Rattle.nml_tree.specs.declared.tree.Desc.{Desc}
 use Rattle.nml_tree.specs.declared.fault.DescFault.{DescFault}
-use Rattle.image_file.specs.File.{Picture, IsPlainImage, file}
-use Rattle.asm_tool.specs.Assembly.{Assembles, FailsAt, is_fit}
-use Rattle.asm_tool.specs.PlainText.{lines}
-use Rattle.bit_sim.specs.Machine.{Runs, beginning}
-use Rattle.bit_sim.specs.Machine as machine
+use Rattle.image_file.specs.File.{Picture, file}
+use Rattle.plain_tools.specs.PlainImage.{IsPlainImage}
+use Rattle.plain_tools.specs.Assembly.{Assembles, FailsAt, is_fit}
+use Rattle.plain_tools.specs.PlainText.{lines}
+use Rattle.plain_tools.specs.Machine.{Runs, beginning}
+use Rattle.plain_tools.specs.Machine as machine
 use Rattle.nml_suite.specs.Described.{HasFault, IsAccepted, IsBuilt, has_pc}
 use Rattle.nml_suite.specs.Form.{Form, Check, Asm, Dis, Run, Cc, Ceval, Demo}
 use Rattle.nml_suite.specs.Reading.{Reading, Got, Asked, IsShort}
@@ -94,7 +95,7 @@ first_input number (line ∷ more) = if list_all is_blank line then first_input 
 -- What `run` comes to on a description, the words of an image, and the bytes of an input. There is no input port, so no number is taken.
 pub data RunsTo (input : List ℕ) (steps : ℕ) (d : Description) (words text : List ℕ) (asked : List Asked) (work : Work) : Type 0 where
   Input : (line : ℕ) → first_input 1 (lines text) ≡ Some line → EndsWith (bad_input input line) asked work → RunsTo input steps d words text asked work
-  Ran : first_input 1 (lines text) ≡ None → (r : machine.Outcome) → Runs d words steps (beginning d) r → EndsWith (told_run r) asked work
+  Ran : first_input 1 (lines text) ≡ None → (r : machine.RunOutcome) → Runs d words steps (beginning d) r → EndsWith (told_run r) asked work
       → RunsTo input steps d words text asked work
 
 -- what `run` comes to: the description first, then the image, then the input

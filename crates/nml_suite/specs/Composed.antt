@@ -1,10 +1,10 @@
 -- How the two commands compose: what `run` does with the image that `asm` wrote.
 use Rattle.std.specs.Prelude.{◌≡◌, ℕ, List, [], ◌∷◌, Some, None}
-use Rattle.nml_tree.specs.Description.{Description}
-use Rattle.asm_tool.specs.Assembly.{Assembles}
-use Rattle.asm_tool.specs.PlainText.{lines}
-use Rattle.bit_sim.specs.Machine.{Runs, beginning}
-use Rattle.bit_sim.specs.Machine as machine
+use Rattle.plain_tree.specs.Description.{Description}
+use Rattle.plain_tools.specs.Assembly.{Assembles}
+use Rattle.plain_tools.specs.PlainText.{lines}
+use Rattle.plain_tools.specs.Machine.{Runs, beginning}
+use Rattle.plain_tools.specs.Machine as machine
 use Rattle.nml_suite.specs.Coming.{AsmComesTo, first_input}
 use Rattle.nml_suite.specs.Described.{Describes}
 use Rattle.nml_suite.specs.Reply.{told_run}
@@ -31,6 +31,6 @@ pub record RunsText (bytes text : List ℕ) (steps : ℕ) (w : Work) : Type 0 wh
   pub described : Describes purposes.Running bytes description
   pub words : List ℕ
   pub assembles : Assembles description (lines text) words
-  pub run : machine.Outcome
+  pub run : machine.RunOutcome
   pub runs : Runs description words steps (beginning description) run
   pub is : w ≡ telling (told_run run)

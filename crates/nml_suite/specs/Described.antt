@@ -1,9 +1,9 @@
 -- What the bytes of a description are: which fault they have, or which tree they are accepted as, and which plain description that is.
 use Rattle.std.specs.Prelude.{◌≡◌, ℕ, List, [], length, IsTrue, Bool, true, false, nat_eq, nat_lt, is_none, ◌&&◌, ◌||◌}
 use Rattle.std.specs.List.{list_all}
-use Rattle.nml_tree.specs.Description.{Description}
+use Rattle.plain_tree.specs.Description.{Description}
 use Rattle.nml_tree.specs.Floats.{float_places}
-use Rattle.nml_tree.specs.PlainTree.{IsPlainTree}
+use Rattle.plain_tree.specs.PlainTree.{IsPlainTree}
 use Rattle.nml_tree.specs.declared.tree.Desc.{Desc}
 use Rattle.nml_tree.specs.declared.fault.DescFault.{DescFault}
 use Rattle.nml_tree.specs.declared.fault.DescFault.TheVariants as faults

@@ -1,18 +1,18 @@
 -- For private contracts: what a refusal tells, what a step of a command refuses, and what the reading of its files comes to.
 use Rattle.std.specs.Prelude.{◌≡◌, ◌≤◌, ◌⊎◌, ℕ, List, [], ◌∷◌, ◌++◌, Option, Some, None, Result, Ok, Err, IsTrue, IsFalse}
 use Rattle.std.specs.Global.{Vec}
-use Rattle.nml_tree.specs.Description.{Description, description_of}
-use Rattle.nml_tree.specs.IsPlain.{word_width}
+use Rattle.plain_tree.specs.Description.{Description, description_of}
+use Rattle.plain_tree.specs.IsPlain.{word_width}
 use Rattle.nml_tree.specs.declared.tree.Desc.{Desc}
 use Rattle.nml_tree.specs.declared.fault.DescFault.{DescFault}
-use Rattle.nml_tree.specs.declared.rules.Plain.{Plain}
+use Rattle.plain_tree.specs.declared.rules.Plain.{Plain}
 use Rattle.image_file.specs.File.{Picture}
 use Rattle.image_file.specs.Seen.{picture_of}
 use Rattle.image_file.specs.declared.image.Image.{Image}
-use Rattle.asm_tool.specs.Assembly.{Assembles, FailsAt, is_fit}
-use Rattle.asm_tool.specs.PlainText.{lines}
-use Rattle.bit_sim.specs.Machine.{Runs, beginning}
-use Rattle.bit_sim.specs.Machine as machine
+use Rattle.plain_tools.specs.Assembly.{Assembles, FailsAt, is_fit}
+use Rattle.plain_tools.specs.PlainText.{lines}
+use Rattle.plain_tools.specs.Machine.{Runs, beginning}
+use Rattle.plain_tools.specs.Machine as machine
 use Rattle.nk_outside.specs.Count.{Rose}
 use Rattle.nk_outside.specs.Held.{SameElsewhere}
 use Rattle.nml_suite.specs.Answer.{AreNamed}
@@ -171,7 +171,7 @@ IsBlankInput name text (Err refusal) = (line : ℕ) × (first_input 1 (lines tex
 
 -- a run of these words, for at most so many steps, is told
 abbrev pub TellsRunOf : ℕ → Description → List ℕ → List Asked → Work → Type 0
-TellsRunOf steps d words asked work = (r : machine.Outcome) × Runs d words steps (beginning d) r × EndsWith (told_run r) asked work
+TellsRunOf steps d words asked work = (r : machine.RunOutcome) × Runs d words steps (beginning d) r × EndsWith (told_run r) asked work
 
 -- all three files were read, and a run may begin
 pub record IsReady (before now : Store) (description image input : List ℕ) (p : Plain) (i : Image) : Type 0 where

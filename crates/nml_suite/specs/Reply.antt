@@ -2,8 +2,8 @@
 use Rattle.std.specs.Prelude.{ℕ, zero, suc, List, [], ◌∷◌, ◌++◌, length, ℤ, codes}
 use Rattle.std.specs.Fmt.{decimal, signed_decimal}
 use Rattle.nk_base.specs.Hexadecimal.{hexadecimal, digits_of_word}
-use Rattle.bit_sim.specs.Machine.{Stop, Running, Halted, NoWord, BadWord}
-use Rattle.bit_sim.specs.Machine as machine
+use Rattle.plain_tools.specs.Machine.{Stop, Running, Halted, NoWord, BadWord}
+use Rattle.plain_tools.specs.Machine as machine
 use Rattle.nml_tree.specs.declared.fault.DescFault.{DescFault}
 use Rattle.nml_suite.specs.FaultText.{fault_text}
 use Rattle.nml_suite.specs.Reading.{Reading, Got, Absent, Failed, TooLong, Unread}
@@ -95,5 +95,5 @@ stop_status (NoWord place) = statuses.NoWord
 stop_status (BadWord place) = statuses.BadWord
 
 -- a line for each output of a run, and one that tells how it stopped
-abbrev pub told_run : machine.Outcome → Reply
+abbrev pub told_run : machine.RunOutcome → Reply
 told_run r = reply (stop_status r.stop) (output_lines r.out ++ stop_line r.stop)

@@ -2,11 +2,11 @@
 use Rattle.std.specs.Prelude.{◌≡◌, ℕ, List, [], ℤ, Option, Some, None, Result, Ok, Err}
 use Rattle.nk_outside.specs.Taken.{Took, TookFront}
 use Rattle.nk_outside.specs.declared.files.WriteFault.{WriteFault}
-use Rattle.nml_tree.specs.Description.{description_of}
-use Rattle.bit_sim.specs.Machine.{Outcome, Runs, Simulator, beginning}
-use Rattle.bit_sim.specs.Machine as machine
-use Rattle.bit_sim.specs.declared.step.Step.{Step}
-use Rattle.bit_sim.specs.declared.step.Step.TheVariants as steps
+use Rattle.plain_tree.specs.Description.{description_of}
+use Rattle.plain_tools.specs.Machine.{RunOutcome, Runs, Simulator, beginning}
+use Rattle.plain_tools.specs.Machine as machine
+use Rattle.plain_tools.specs.declared.step.Step.{Step}
+use Rattle.plain_tools.specs.declared.step.Step.TheVariants as steps
 use Rattle.nml_suite.specs.Reply.{output_line, output_lines, told_run}
 use Rattle.nml_suite.specs.Seen.{stop_of}
 use Rattle.nml_suite.specs.Told.{Told}
@@ -43,7 +43,7 @@ pub record PutsOutputs (s : Simulator) (bound : ℕ) (old new : Option (List ℕ
 
 -- a front of the lines for the outputs of the run was taken
 pub record PutsCutOutputs (s : Simulator) (bound : ℕ) (old new : Option (List ℕ)) : Type 0 where
-  pub run : Outcome
+  pub run : RunOutcome
   pub runs : Runs s.description s.words bound s.machine run
   pub took : TookFront old new (output_lines run.out)
 
@@ -53,14 +53,14 @@ IsPut s bound old new (Err fault) = PutsCutOutputs s bound old new
 
 -- the run's text was taken, and this is its status
 pub record PutsRun (s : Simulator) (bound : ℕ) (old new : Option (List ℕ)) (status : Status) : Type 0 where
-  pub run : Outcome
+  pub run : RunOutcome
   pub runs : Runs s.description s.words bound s.machine run
   pub took : Took old new (told_run run).text
   pub is : status ≡ (told_run run).status
 
 -- a front of the run's text was taken
 pub record PutsCutRun (s : Simulator) (bound : ℕ) (old new : Option (List ℕ)) : Type 0 where
-  pub run : Outcome
+  pub run : RunOutcome
   pub runs : Runs s.description s.words bound s.machine run
   pub took : TookFront old new (told_run run).text
 
@@ -70,7 +70,7 @@ IsRun s bound old new (Err fault) = PutsCutRun s bound old new
 
 -- the text of the run was told
 pub record TellsRun (s : Simulator) (bound : ℕ) (old new : Option (List ℕ)) (before now : ℕ) (status : Status) : Type 0 where
-  pub run : Outcome
+  pub run : RunOutcome
   pub runs : Runs s.description s.words bound s.machine run
   pub told : Told (told_run run) old new before now status
 

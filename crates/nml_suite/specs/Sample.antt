@@ -1,12 +1,14 @@
 -- Worked examples of the definitions, each by computation.
-use Rattle.std.specs.Prelude.{◌≡◌, [], ◌∷◌, Some, None, true, false, codes, refl, pos, negsuc}
+use Rattle.std.proofs.Common.{lit≤}
+use Rattle.std.specs.Prelude.{◌≡◌, ◌<◌, ◌^◌, ℕ, [], ◌∷◌, Some, None, true, false, codes, refl, pos, negsuc}
 use Rattle.std.specs.Fmt.{digits}
-use Rattle.nml_tree.specs.SampleMachine as sample
+use Rattle.plain_tree.specs.SampleMachine as sample
+use Rattle.nk_base.specs.declared.number.Bits.{Bits}
 use Rattle.nml_tree.specs.declared.fault.DescFault.TheVariants as faults
 use Rattle.nml_tree.specs.declared.fault.Root.TheVariants as roots
 use Rattle.image_file.specs.File.{file}
-use Rattle.asm_tool.specs.PlainText.{lines}
-use Rattle.bit_sim.specs.Sample as runs
+use Rattle.plain_tools.specs.PlainText.{lines}
+use Rattle.plain_tools.specs.SampleRun as runs
 use Rattle.nml_suite.specs.Coming.{RunsTo, Input, Ran, first_input, written_image, picture}
 use Rattle.nml_suite.specs.Described.{is_built}
 use Rattle.nml_suite.specs.Form.{Asm, Run, Demo, form_of, files_to_read, file_to_write}
@@ -64,11 +66,15 @@ float_line : (description_fault (codes "m") (faults.Float 9)).text ≡ codes "m:
 unfolding digits
 float_line = refl
 
+-- a word of ten bits
+abbrev bits : (value : ℕ) → value < 2 ^ 10 → Bits
+bits value below = record { width = 10; value = value; narrow = lit≤ tt; below = below }
+
 -- the texts of two instructions stand in quotes, and their word in hexadecimal
-same_image_line : (description_fault (codes "m") (faults.SameImage (codes "ldi 5") (codes "five") (record { width = 10; value = 0x105 }))).text ≡ codes "m: N13 SameImage \"ldi 5\" \"five\" 105\n"
+same_image_line : (description_fault (codes "m") (faults.SameImage (codes "ldi 5") (codes "five") (bits 0x105 (lit≤ tt)))).text ≡ codes "m: N13 SameImage \"ldi 5\" \"five\" 105\n"
 same_image_line = refl
 
-same_syntax_line : (description_fault (codes "m") (faults.SameSyntax (record { width = 10; value = 0x300 }) (record { width = 10; value = 0x380 }) (codes "beq"))).text ≡ codes "m: N14 SameSyntax 300 380 \"beq\"\n"
+same_syntax_line : (description_fault (codes "m") (faults.SameSyntax (bits 0x300 (lit≤ tt)) (bits 0x380 (lit≤ tt)) (codes "beq"))).text ≡ codes "m: N14 SameSyntax 300 380 \"beq\"\n"
 same_syntax_line = refl
 
 shapes_line : (description_fault (codes "m5") (faults.Shapes 4097 6 0)).text ≡ codes "m5: N12 Shapes 4097 6 0\n"

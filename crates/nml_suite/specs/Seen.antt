@@ -1,5 +1,5 @@
 -- The form that a command is, and the stop of a run.
-use Rattle.bit_sim.specs.Machine as machine
+use Rattle.plain_tools.specs.Machine as machine
 use Rattle.nml_suite.specs.declared.command.Command.{Command}
 use Rattle.nml_suite.specs.declared.command.Command.TheVariants as commands
 use Rattle.nml_suite.specs.declared.stop.Stop.{Stop}

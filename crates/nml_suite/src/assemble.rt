@@ -4,18 +4,18 @@ ghost use Rattle.nml_suite.specs.Coming.{AsmComesTo};
 ghost use Rattle.nml_suite.specs.Described.{has_pc};
 ghost use Rattle.nml_suite.specs.Reading.{store};
 ghost use Rattle.nml_suite.specs.Refusing.{IsAssembledText, IsMade, IsStored, Settles, file_named, settled};
-ghost use Rattle.nml_tree.specs.Description.{description_of};
-ghost use Rattle.nml_tree.specs.IsPlain.{IsPlain, word_width};
+ghost use Rattle.plain_tree.specs.Description.{description_of};
+ghost use Rattle.plain_tree.specs.IsPlain.{IsPlain, word_width};
 
 use crate::describe::{describe, has_pc};
 use crate::load::load;
 use crate::purpose::Purpose;
 use crate::refusal::Refusal;
-use asm_tool::{PlainFault, plain_words};
+use plain_tools::{PlainFault, plain_words};
 use image_file::{Image, write};
 use nk_base::{Memory, Text};
 use nk_outside::{Files, WriteFault};
-use nml_tree::{Plain, word_bits};
+use plain_tree::{Plain, word_bits};
 use sha2::{Digest, Sha256};
 use std::alloc::Global;
 

@@ -4,14 +4,15 @@ ghost use Rattle.nml_suite.specs.Described as spec;
 ghost use Rattle.nk_outside.specs.Held.{file_limit};
 ghost use Rattle.nml_suite.specs.Refusing.{IsDescribed, IsReadAs, IsDescribedBy, refused};
 ghost use Rattle.nml_suite.specs.Reply.{description_fault, not_built_file, starved};
-ghost use Rattle.nml_tree.specs.Description.{description_of};
+ghost use Rattle.plain_tree.specs.Description.{description_of};
 
 use crate::fault::is_memory;
 use crate::purpose::Purpose;
 use crate::refusal::Refusal;
 use nk_base::{Memory, Text};
 use nml_read::read;
-use nml_tree::{Desc, DescFault, Plain, PlainRule, plain_of};
+use nml_tree::{Desc, DescFault};
+use plain_tree::{Plain, PlainRule, plain_of};
 use std::alloc::Global;
 
 /// The description that the bytes of the named file spell, where it is one that is built for this purpose. Bytes with a fault are refused

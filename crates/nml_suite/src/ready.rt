@@ -3,19 +3,20 @@ ghost use Rattle.nk_outside.specs.Held.{file_limit};
 ghost use Rattle.nml_suite.specs.Coming as spec;
 ghost use Rattle.nml_suite.specs.Reading.{store};
 ghost use Rattle.nml_suite.specs.Refusing.{IsBlankInput, IsFound, RunSettles};
-ghost use Rattle.nml_tree.specs.Description.{description_of};
-ghost use Rattle.nml_tree.specs.IsPlain.{IsPlain};
-ghost use Rattle.asm_tool.specs.PlainText.{lines};
+ghost use Rattle.plain_tree.specs.Description.{description_of};
+ghost use Rattle.plain_tree.specs.IsPlain.{IsPlain};
+ghost use Rattle.plain_tools.specs.PlainText.{lines};
 
 use crate::describe::describe;
 use crate::load::load;
 use crate::purpose::Purpose;
 use crate::refusal::Refusal;
-use image_file::{Image, plain_read};
+use image_file::Image;
+use plain_tools::plain_read;
 use nk_base::byte::is_blank;
 use nk_base::{Memory, Text};
 use nk_outside::Files;
-use nml_tree::Plain;
+use plain_tree::Plain;
 use sha2::{Digest, Sha256};
 use std::alloc::Global;
 

@@ -6,14 +6,14 @@ ghost use Rattle.nml_suite.specs.Ended.{CountsPuts};
 ghost use Rattle.nml_suite.specs.Reply.{stop_line};
 ghost use Rattle.nml_suite.specs.Running.{IsPut, IsRun, TellsRun, opened, output_text, put_by, stop_after};
 ghost use Rattle.nml_suite.specs.Seen as spec;
-ghost use Rattle.nml_tree.specs.Description.{description_of};
-ghost use Rattle.nml_tree.specs.IsPlain.{IsPlain};
+ghost use Rattle.plain_tree.specs.Description.{description_of};
+ghost use Rattle.plain_tree.specs.IsPlain.{IsPlain};
 
 use crate::Status;
 use crate::ready::Ready;
 use crate::stop::Stop;
 use crate::tell::{ended, put};
-use bit_sim::{PlainSim, Step};
+use plain_tools::{PlainSim, Step};
 use nk_base::dec_into;
 use nk_outside::{Sink, WriteFault};
 use std::alloc::Global;

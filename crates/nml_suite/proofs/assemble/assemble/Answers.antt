@@ -1,5 +1,5 @@
 use Rattle.std.proofs.lemmas.Result.{err_from_is_err_and}
-use Rattle.nml_tree.specs.Description.{description_of}
+use Rattle.plain_tree.specs.Description.{description_of}
 use Rattle.nml_suite.proofs.Arriving.{arrived, opened, not_opened, described, not_described, assembled_text}
 use Rattle.nml_suite.proofs.assemble.assemble.Goals as goal
 

@@ -1,5 +1,5 @@
 use Rattle.std.proofs.Common.{◌∙◌, sym}
-use Rattle.nml_tree.specs.Description.{description_of}
+use Rattle.plain_tree.specs.Description.{description_of}
 use Rattle.nml_suite.proofs.Images.{has_file}
 use Rattle.nml_suite.proofs.assemble.made_of.Goals as goal
 

@@ -1,6 +1,6 @@
-use Rattle.nml_tree.specs.Description.{description_of}
-use Rattle.asm_tool.specs.PlainText.{lines}
-use Rattle.asm_tool.proofs.AssembledWords.{words_fit, words_few}
+use Rattle.plain_tree.specs.Description.{description_of}
+use Rattle.plain_tools.specs.PlainText.{lines}
+use Rattle.plain_tools.proofs.AssembledWords.{words_fit, words_few}
 use Rattle.nml_suite.proofs.assemble.words_of.Goals as goal
 
 pub made_of-requires-clause-fit : goal.made_of-requires-clause-fit

@@ -1,7 +1,7 @@
 use Rattle.std.proofs.Common.{ap, ◌∙◌, sym, length, map}
 use Rattle.std.specs.Prelude.{nat_eq, ◌&&◌}
 use Rattle.std.specs.List.{list_all}
-use Rattle.nml_tree.specs.Description.{rule_of}
+use Rattle.plain_tree.specs.Description.{rule_of}
 use Rattle.nml_suite.proofs.Built.{all_mapped}
 use Rattle.nml_suite.proofs.describe.is_bare.Goals as goal
 

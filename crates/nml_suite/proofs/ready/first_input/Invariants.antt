@@ -1,5 +1,5 @@
 use Rattle.std.proofs.Common.{◌≡◌, ◌≤◌, ◌+◌, drop}
-use Rattle.asm_tool.specs.PlainText.{lines}
+use Rattle.plain_tools.specs.PlainText.{lines}
 use Rattle.nml_suite.specs.Coming as spec
 use Rattle.nml_suite.proofs.ready.first_input.Given as goal
 

@@ -7,4 +7,4 @@ returns-in-NoMatch c =
     let name = c.in-NoMatch.name.now in
     let fault = codes ": S3 NoMatch " in
     let number = decimal c.in-NoMatch.line in
-    rw (c.in-NoMatch.is, append_assoc (name ++ fault) number (codes "\n"), append_assoc name fault (number ++ codes "\n")) c.numbered-in-NoMatch.ensures
+    rw (c.in-NoMatch.is, append_assoc (name ++ fault) number (codes "\n"), append_assoc name fault (number ++ codes "\n")) c.numbered.ensures

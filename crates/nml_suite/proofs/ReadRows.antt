@@ -1,5 +1,5 @@
 -- Rows of reads: put one after another, the causes that they leave, and what they leave alone.
-use Rattle.std.proofs.Common.{◌≡◌, ◌≤◌, ◌+◌, ℕ, List, [], ◌∷◌, ◌++◌, Option, length, refl, ◌∙◌, subst, arith}
+use Rattle.std.proofs.Common.{◌≡◌, ◌≤◌, ◌+◌, ℕ, List, [], ◌∷◌, ◌++◌, Option, length, refl, sym, ◌∙◌, subst, arith}
 use Rattle.nk_outside.specs.Count.{Counts, counted}
 use Rattle.nk_outside.specs.Held.{Names, Reads, Lacks, IsTooLong}
 use Rattle.nml_suite.specs.Files.{HaveCauses}
@@ -28,12 +28,12 @@ one_later : (b n : Store) (name : List ℕ) (r : Reading) → IsRead b n name r 
 one_later b n name r x = record { held = x.held; read_faults = x.read_faults; absents = x.absents; write_faults = x.write_faults }
 
 pub reads_later : (b n : Store) (xs : List Asked) → AreRead b n xs → Later b n
-reads_later b n [] e = subst (Later b) (λ i. e (~ i)) (record { held = refl; read_faults = omega arith; absents = omega arith; write_faults = refl })
+reads_later b n [] e = subst (Later b) (sym e) (record { held = refl; read_faults = omega arith; absents = omega arith; write_faults = refl })
 reads_later b n (x ∷ xs) r = later_both b r.0 n (one_later b r.0 x.0 x.1 r.1) (reads_later r.0 n xs r.2)
 
 -- how many calls they are
 pub reads_calls : (b n : Store) (xs : List Asked) → AreRead b n xs → n.counts.calls ≤ b.counts.calls + length xs
-reads_calls b n [] e = subst (λ (s : Store). s.counts.calls ≤ b.counts.calls + 0) (λ i. e (~ i)) (omega arith)
+reads_calls b n [] e = subst (λ (s : Store). s.counts.calls ≤ b.counts.calls + 0) (sym e) (omega arith)
 reads_calls b n (x ∷ xs) r = omega (arith, counted_once b.counts.calls, r.1.calls, reads_calls r.0 n xs r.2)
 
 pub reads_append : (b m n : Store) (xs ys : List Asked) → AreRead b m xs → AreRead m n ys → AreRead b n (xs ++ ys)

@@ -1,0 +1,110 @@
+-- However the reads are answered, it can't be that words come to nothing.
+use Rattle.std.proofs.Common.{◌≡◌, ◌⊎◌, ℕ, suc, List, [], ◌∷◌, Option, Some, None, refl, sym, ap, ◌∙◌, subst, inl, inr}
+use Rattle.std.specs.Prelude.{Bool, true, false}
+use Rattle.nml_tree.specs.declared.fault.DescFault.TheVariants as faults
+use Rattle.nml_tree.specs.declared.tree.Desc.{Desc}
+use Rattle.nml_tree.specs.Floats.{float_places}
+use Rattle.nml_lex.specs.Lexed.{IsStuckAt}
+use Rattle.nml_read.specs.Trees.{IsTree, HasNoTree, IsFloat}
+use Rattle.nml_read.proofs.SomeReading.{some_tree, some_float}
+use Rattle.image_file.specs.File.{Picture}
+use Rattle.plain_tree.specs.Description.{Description}
+use Rattle.plain_tools.specs.Assembly.{Assembles, FailsAt, is_fit}
+use Rattle.plain_tools.specs.Machine.{RunOutcome, Runs, beginning}
+use Rattle.plain_tools.specs.PlainText.{lines}
+use Rattle.plain_tools.proofs.HasOutcome.{has_outcome}
+use Rattle.plain_tools.proofs.Determined.{not_neither}
+use Rattle.nml_suite.specs.Coming.{EndsWith, Opens, Short, Opened, Accepts, Faulty, Accepted, Simplifies, Other, Plain, AssemblesTo, NotPlain, NoMatch, Words, Loads, NoImage, Loaded, RunsTo, Input, Ran, IsImageOf, ComesTo, first_input, made}
+use Rattle.nml_suite.specs.Complete.{Answering, AllAnswer, AreAnswered, ComesOut}
+use Rattle.nml_suite.specs.Described.{IsAccepted, IsBuilt, HasFault}
+use Rattle.nml_suite.specs.Form.{Form, Check, Asm, Dis, Run, Cc, Ceval, Demo}
+use Rattle.nml_suite.specs.Reading.{Reading, Got, Absent, Failed, TooLong, Unread, Asked}
+use Rattle.nml_suite.specs.Reply.{Reply, told_run}
+use Rattle.nml_suite.specs.Work.{Work, telling}
+use Rattle.nml_suite.specs.declared.purpose.Purpose.{Purpose}
+
+-- it can't be that reads that are answered so, the first of them being the one at this place, come to nothing
+abbrev Comes : Answering → ℕ → (List Asked → Work → Type 0) → Type 0
+Comes answers k goes = ((asked : List Asked) (work : Work) → AreAnswered answers k asked → goes asked work → ⊥) → ⊥
+
+ends : (answers : Answering) (k : ℕ) (o : Reply) → Comes answers k (EndsWith o)
+ends answers k o none = none [] (telling o) tt (record { last = refl; is = refl })
+
+-- ---- the steps
+
+opens_by : (answers : Answering) (k : ℕ) (name : List ℕ) (goes : List ℕ → List Asked → Work → Type 0) (r : Reading) → answers k name ≡ r → (r ≡ Unread → ⊥)
+    → ((bytes : List ℕ) → Comes answers (suc k) (goes bytes)) → Comes answers k (Opens name goes)
+opens_by answers k name goes (Got bytes) e told h none = h bytes (λ more work a g. none ((name, Got bytes) ∷ more) work (sym e, a) (Opened bytes more refl g))
+opens_by answers k name goes Absent e told h none = none ((name, Absent) ∷ []) _ (sym e, tt) (Short Absent refl tt refl)
+opens_by answers k name goes Failed e told h none = none ((name, Failed) ∷ []) _ (sym e, tt) (Short Failed refl tt refl)
+opens_by answers k name goes TooLong e told h none = none ((name, TooLong) ∷ []) _ (sym e, tt) (Short TooLong refl tt refl)
+opens_by answers k name goes Unread e told h none = absurd (told refl)
+
+opens : (answers : Answering) (k : ℕ) (name : List ℕ) (goes : List ℕ → List Asked → Work → Type 0) → AllAnswer answers
+    → ((bytes : List ℕ) → Comes answers (suc k) (goes bytes)) → Comes answers k (Opens name goes)
+opens answers k name goes all h = opens_by answers k name goes (answers k name) refl (all k name) h
+
+accepts_tree : (answers : Answering) (k : ℕ) (name bytes : List ℕ) (goes : Desc → List Asked → Work → Type 0) (tree : Desc) → IsTree bytes tree
+    → ((tree : Desc) → Comes answers k (goes tree)) → (float_places tree ≡ []) ⊎ ((at : ℕ) × IsFloat bytes at) → Comes answers k (Accepts name bytes goes)
+accepts_tree answers k name bytes goes tree is h (inl clear) none =
+    h tree (λ asked work a g. none asked work a (Accepted tree (record { is = is; no_float = clear }) g))
+accepts_tree answers k name bytes goes tree is h (inr float) none = none [] _ tt (Faulty (faults.Float float.0) float.1 (record { last = refl; is = refl }))
+
+accepts_by : (answers : Answering) (k : ℕ) (name bytes : List ℕ) (goes : Desc → List Asked → Work → Type 0) → ((tree : Desc) → Comes answers k (goes tree))
+    → ((d : Desc) × IsTree bytes d) ⊎ (((at : ℕ) × HasNoTree bytes at) ⊎ ((at : ℕ) × IsStuckAt bytes at)) → Comes answers k (Accepts name bytes goes)
+accepts_by answers k name bytes goes h (inl x) = accepts_tree answers k name bytes goes x.0 x.1 h (some_float bytes x.0 x.1)
+accepts_by answers k name bytes goes h (inr (inl x)) none = none [] _ tt (Faulty (faults.Syntax x.0) x.1 (record { last = refl; is = refl }))
+accepts_by answers k name bytes goes h (inr (inr x)) none = none [] _ tt (Faulty (faults.Lex x.0) x.1 (record { last = refl; is = refl }))
+
+accepts : (answers : Answering) (k : ℕ) (name bytes : List ℕ) (goes : Desc → List Asked → Work → Type 0) → ((tree : Desc) → Comes answers k (goes tree)) → Comes answers k (Accepts name bytes goes)
+accepts answers k name bytes goes h = accepts_by answers k name bytes goes h (some_tree bytes)
+
+simplifies : (answers : Answering) (k : ℕ) (purpose : Purpose) (name : List ℕ) (tree : Desc) (goes : Description → List Asked → Work → Type 0)
+    → ((d : Description) → IsBuilt purpose tree d → Comes answers k (goes d)) → Comes answers k (Simplifies purpose name tree goes)
+simplifies answers k purpose name tree goes h none =
+    none [] _ tt (Other (λ d built. h d built (λ asked work a g. none asked work a (Plain d built g))) (record { last = refl; is = refl }))
+
+-- ---- `asm`
+
+text_by : (answers : Answering) (k : ℕ) (s i bytes : List ℕ) (d : Description) (text : List ℕ) (fit : Bool) → is_fit d text ≡ fit → Comes answers k (AssemblesTo s i bytes d text)
+text_by answers k s i bytes d text false e none = none [] _ tt (NotPlain e (record { last = refl; is = refl }))
+text_by answers k s i bytes d text true e none =
+    not_neither d (lines text) (λ words h. none [] (made i bytes d words) tt (Words e words h refl refl))
+    (λ line h. none [] _ tt (NoMatch e line h (record { last = refl; is = refl })))
+
+-- ---- `run`
+
+loads : (answers : Answering) (k : ℕ) (name bytes : List ℕ) (d : Description) (bits : List ℕ) (goes : List ℕ → List Asked → Work → Type 0) → ((words : List ℕ) → Comes answers k (goes words))
+    → Comes answers k (Loads name bytes d bits goes)
+loads answers k name bytes d bits goes h none =
+    none [] _ tt (NoImage (λ i is. h i.words (λ asked work a g. none asked work a (Loaded i is g))) (record { last = refl; is = refl }))
+
+runs_by : (answers : Answering) (k : ℕ) (x : List ℕ) (steps : ℕ) (d : Description) (words text : List ℕ) (line : Option ℕ) → first_input 1 (lines text) ≡ line
+    → (o : RunOutcome) × Runs d words steps (beginning d) o → Comes answers k (RunsTo x steps d words text)
+runs_by answers k x steps d words text (Some line) e r none = none [] _ tt (Input line e (record { last = refl; is = refl }))
+runs_by answers k x steps d words text None e r none = none [] (telling (told_run r.0)) tt (Ran e r.0 r.1 (record { last = refl; is = refl }))
+
+-- ---- any words
+
+comes : (answers : Answering) (form : Option Form) → AllAnswer answers → Comes answers 0 (ComesTo form)
+comes answers None all = ends answers 0 _
+comes answers (Some (Asm d s i)) all =
+    opens answers 0 d _ all
+    (λ bytes. accepts answers 1 d bytes _
+    (λ tree. simplifies answers 1 _ d tree _
+    (λ p built. opens answers 1 s _ all (λ text. text_by answers 2 s i bytes p text (is_fit p text) refl))))
+comes answers (Some (Run d i x n)) all =
+    opens answers 0 d _ all
+    (λ bytes. accepts answers 1 d bytes _
+    (λ tree. simplifies answers 1 _ d tree _
+    (λ p built. opens answers 1 i _ all
+    (λ bits. loads answers 2 i bytes p bits _
+    (λ words. opens answers 2 x _ all (λ text. runs_by answers 3 x n p words text (first_input 1 (lines text)) refl (has_outcome p words n (beginning p) built.plain.plain)))))))
+comes answers (Some (Check d)) all = ends answers 0 _
+comes answers (Some (Dis d i)) all = ends answers 0 _
+comes answers (Some (Cc d s i)) all = ends answers 0 _
+comes answers (Some (Ceval d s x n)) all = ends answers 0 _
+comes answers (Some (Demo k)) all = ends answers 0 _
+
+pub some_work : (answers : Answering) (form : Option Form) → AllAnswer answers → ((work : Work) → ComesOut answers form work → ⊥) → ⊥
+some_work answers form all none = comes answers form all (λ asked work a g. none work (record { asked = asked; answered = a; comes = g }))

@@ -1,0 +1,13 @@
+use Rattle.std.proofs.Common.{◌++◌, codes}
+use Rattle.std.specs.Fmt.{decimal}
+use Rattle.nml_suite.proofs.Lines.{on_ok, behind}
+use Rattle.nml_suite.proofs.fault.push_shapes.Goals as goal
+
+pub returns : goal.returns
+returns c =
+    let count = codes "N12 Shapes " ++ decimal c.args.count in
+    let nodes = (count ++ codes " ") ++ decimal c.args.nodes in
+    on_ok _ _ c.push_number-3.result
+    (λ e. behind c.args.line.now nodes (codes " ") (decimal c.args.size) _ _
+    (behind c.args.line.now count (codes " ") (decimal c.args.nodes) _ _ c.in_ok-push_number.ensures c.in_ok-push_number-2.ensures) e)
+    c.push_number-3.ensures
