@@ -43,14 +43,12 @@ pub fn push_expr(text: &mut Text, e: &Expr) -> Result<(), Memory>
             push_between(text, b"else", y.get(), b"endif")
         }
         Expr::Neg(_, _) | Expr::Inv(_, _) | Expr::Not(_, _) => push_operator(text, e),
-        Expr::OrElse(_, _, _) | Expr::AndAlso(_, _, _) | Expr::Or(_, _, _) => push_operator(
-            text, e,
-        ),
-        Expr::Xor(_, _, _) | Expr::And(_, _, _) | Expr::Eq(_, _, _) => push_operator(text, e),
-        Expr::Ne(_, _, _) | Expr::Lt(_, _, _) | Expr::Le(_, _, _) => push_operator(text, e),
-        Expr::Gt(_, _, _) | Expr::Ge(_, _, _) | Expr::Shl(_, _, _) => push_operator(text, e),
-        Expr::Shr(_, _, _) | Expr::Add(_, _, _) | Expr::Sub(_, _, _) => push_operator(text, e),
-        Expr::Mul(_, _, _) => push_operator(text, e),
+        Expr::OrElse(_, _, _) | Expr::AndAlso(_, _, _) => push_operator(text, e),
+        Expr::Or(_, _, _) | Expr::Xor(_, _, _) | Expr::And(_, _, _) => push_operator(text, e),
+        Expr::Eq(_, _, _) | Expr::Ne(_, _, _) | Expr::Lt(_, _, _) => push_operator(text, e),
+        Expr::Le(_, _, _) | Expr::Gt(_, _, _) | Expr::Ge(_, _, _) => push_operator(text, e),
+        Expr::Shl(_, _, _) | Expr::Shr(_, _, _) | Expr::Add(_, _, _) => push_operator(text, e),
+        Expr::Sub(_, _, _) | Expr::Mul(_, _, _) => push_operator(text, e),
     }
 }
 
