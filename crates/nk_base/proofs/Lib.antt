@@ -1,3 +1,4 @@
 pub mod Numbers
 pub mod Digits
 pub mod DigitsValue
+pub mod HexadecimalFronts

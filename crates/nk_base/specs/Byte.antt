@@ -10,10 +10,10 @@ is_name_start c = is_ascii_alphabetic c || (c == 95)
 abbrev pub is_name_byte : ℕ → Bool
 is_name_byte c = is_name_start c || is_ascii_digit c
 
--- a blank, a tab or a carriage return
+-- empty space within a line: a blank, a tab or a carriage return
 abbrev pub is_blank : ℕ → Bool
 is_blank c = (c == 32) || (c == 9) || (c == 13)
 
--- what stands between the tokens of a description: a blank, or a line feed
+-- empty space between tokens, over lines: that within a line, or a line feed
 abbrev pub is_gap : ℕ → Bool
 is_gap c = is_blank c || (c == 10)

@@ -1,5 +1,5 @@
-ghost use Rattle.std.specs.Prelude.{◌≡◌, ◌≤◌, ◌<◌, ◌^◌, ◌+◌, ◌++◌, nat_lt, take, length, IfOk, Some, None, if◌then◌else◌};
-ghost use Rattle.std.specs.Char.{is_ascii_digit};
+ghost use Rattle.std.specs.Prelude.{◌≡◌, ◌≤◌, ◌<◌, ◌^◌, ◌+◌, ◌++◌, nat_le, nat_lt, take, length, IfOk, Some, None, if◌then◌else◌};
+ghost use Rattle.std.specs.Char.{is_ascii_digit, is_digit};
 ghost use Rattle.std.specs.Fmt.{decimal, signed_decimal};
 ghost use Rattle.std.specs.List.{AllPass};
 ghost use Rattle.std.specs.Str.Parse.{digits_value};
@@ -50,17 +50,36 @@ fn write_digits(n: u128, buf: &mut [u8; 40], from: usize) -> usize
     }
 }
 
-/// The number that the digits write, where it is below 2^128. No digits write 0. It takes no memory.
-#[tactic(auto, using(crate::proofs::DigitsValue::value_steps))]
+/// The number that the decimal digits write, where it is below 2^128; `None` where it isn't.
+///
+/// Zeros in front change nothing, and no digits write 0. It takes no memory.
 pub fn number_of_digits(digits: &[u8]) -> Option<u128>
     requires { AllPass is_ascii_digit digits.now }
     ensures { result ≡ (if nat_lt (digits_value 10 digits.now) (2 ^ 128) then Some (digits_value 10 digits.now) else None) }
 {
+    number_up_to(digits, 10, u128::MAX)
+}
+
+/// The number that the digits write in this radix, from 2 to 16, where it is `most` at most; `None` where it isn't.
+///
+/// A digit above 9 is a letter of either case. Zeros in front change nothing, and no digits write 0. It takes no
+/// memory.
+#[tactic(auto, using(crate::proofs::DigitsValue::value_steps))]
+pub fn number_up_to(digits: &[u8], radix: u32, most: u128) -> Option<u128>
+    requires low { 2 ≤ radix }
+    requires high { radix ≤ 16 }
+    requires digits { AllPass (λ c. is_digit c radix) digits.now }
+    ensures { result ≡ (if nat_le (digits_value radix digits.now) most then Some (digits_value radix digits.now) else None) }
+{
     let mut value: u128 = 0;
     for digit in digits {
+        let digit = char::from(*digit).to_digit(radix)?;
         value = value
-            .checked_mul(10)?
-            .checked_add(u128::from(*digit - b'0'))?;
+            .checked_mul(u128::from(radix))?
+            .checked_add(u128::from(digit))?;
+        if value > most {
+            return None;
+        }
     }
     Some(value)
 }

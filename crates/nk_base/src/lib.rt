@@ -3,6 +3,7 @@
 
 pub mod byte;
 mod decimal;
+mod front;
 mod hexadecimal;
 mod memory;
 mod number;
@@ -10,8 +11,9 @@ mod number;
 mod tests;
 mod text;
 
-pub use decimal::{dec, dec_into, number_of_digits};
+pub use decimal::{dec, dec_into, number_of_digits, number_up_to};
+pub use front::{behind_prefix, digits_len};
 pub use hexadecimal::push_hexadecimal;
 pub use memory::Memory;
-pub use number::{Bits, Ty, wrap, wrapped_is_congruent};
+pub use number::{Bits, Ty, low_bits, power_of_two, wrap, wrapped_is_congruent};
 pub use text::Text;

@@ -13,6 +13,19 @@ pub enum Ty {
     Int(u32),
 }
 
+impl Ty {
+    /// How many bits a number of the type has: 1 of a `Bool`, n of a `Card(n)` or an `Int(n)`. It takes no memory.
+    pub fn width(self) -> u32
+        ensures { result ≡ width_of self }
+    {
+        match self {
+            Ty::Bool => 1,
+            Ty::Card(n) => n,
+            Ty::Int(n) => n,
+        }
+    }
+}
+
 /// So many bits, at most 128, as the number that they write.
 #[derive(Clone, Copy, Debug, PartialEq, Eq)]
 pub struct Bits {
@@ -50,16 +63,18 @@ pub fn wrapped_is_congruent()
     ensures { (ty : Ty) (z : ℤ) → IsCongruent (width_of ty) z (wrapped ty z) }
 {}
 
-/// 2^n.
-fn power_of_two(n: u32) -> i128
+/// 2^n, for n from 0 to 126: what an `i128` can hold. It takes no memory.
+pub fn power_of_two(n: u32) -> i128
     requires { n ≤ 126 }
     ensures { result ≡ pos (2 ^ n) }
 {
     1 << n
 }
 
-/// `z` modulo 2^n, 0 or above.
-fn low_bits(z: i128, n: u32) -> i128
+/// The lowest n bits of `z`, for n from 0 to 126: `z` modulo 2^n, from 0 to 2^n-1, also of a negative `z`.
+///
+/// It takes no memory.
+pub fn low_bits(z: i128, n: u32) -> i128
     requires { n ≤ 126 }
     ensures exact { result ≡ spec.low_bits n z }
     ensures low { pos 0 ≤ℤ result }

@@ -10,7 +10,7 @@ abbrev pub Rose : ℕ → ℕ → Type 0
 Rose before now = min (before + 1) (2 ^ 64 - 1) ≤ now
 
 -- a count of faults doesn't fall, and it rose where the fault is told
-pub record HasCause (before now : ℕ) (is_told : Type 0) : Type 0 where
+pub record CountsFault (before now : ℕ) (is_told : Type 0) : Type 0 where
   pub later : before ≤ now
   pub rose : is_told → Rose before now
 

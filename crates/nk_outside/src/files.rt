@@ -1,6 +1,6 @@
-ghost use Rattle.std.specs.Prelude.{◌≡◌, ◌≤◌, IfOk, OnOk, IsErrOf};
+ghost use Rattle.std.specs.Prelude.{◌≡◌, ◌≢◌, ◌≤◌, Err, IfOk, OnOk, IsErrOf};
 ghost use Rattle.std.specs.declared.option.Option.{Option};
-ghost use Rattle.nk_outside.specs.Count.{Counts, counted, Rose, HasCause};
+ghost use Rattle.nk_outside.specs.Count.{Counts, counted, Rose, CountsFault};
 ghost use Rattle.nk_outside.specs.Held.{Names, Reads, Lacks, IsTooLong, SameElsewhere, Holds};
 
 use nk_base::{Memory, Text};
@@ -53,8 +53,10 @@ pub trait Files {
         ensures lacks { IsErrOf result ReadFault.Absent → Lacks (held self.old) name.now }
         ensures too_long { IsErrOf result ReadFault.TooLong → IsTooLong (held self.old) name.now }
         ensures calls { (counts self.new).calls ≡ counted (counts self.old).calls }
-        ensures failed { HasCause (counts self.old).read_faults (counts self.new).read_faults (IsErrOf result ReadFault.Failed) }
-        ensures absent { HasCause (counts self.old).absents (counts self.new).absents (IsErrOf result ReadFault.Absent) }
+        ensures failed { CountsFault (counts self.old).read_faults (counts self.new).read_faults (IsErrOf result ReadFault.Failed) }
+        ensures absent { CountsFault (counts self.old).absents (counts self.new).absents (IsErrOf result ReadFault.Absent) }
+        ensures kept { result ≢ Err ReadFault.Failed → (counts self.new).read_faults ≡ (counts self.old).read_faults }
+        ensures found { result ≢ Err ReadFault.Absent → (counts self.new).absents ≡ (counts self.old).absents }
         ensures writes { (counts self.new).write_faults ≡ (counts self.old).write_faults };
 
     /// Puts the bytes under a name. In every case the other files are as before.
@@ -65,7 +67,8 @@ pub trait Files {
         ensures others { SameElsewhere name.now (held self.old) (held self.new) }
         ensures memory { IsErrOf result WriteFault.Memory → held self.new ≡ held self.old }
         ensures calls { (counts self.new).calls ≡ counted (counts self.old).calls }
-        ensures failed { HasCause (counts self.old).write_faults (counts self.new).write_faults (IsErrOf result WriteFault.Failed) }
+        ensures failed { CountsFault (counts self.old).write_faults (counts self.new).write_faults (IsErrOf result WriteFault.Failed) }
+        ensures kept { result ≢ Err WriteFault.Failed → (counts self.new).write_faults ≡ (counts self.old).write_faults }
         ensures reads { (counts self.new).read_faults ≡ (counts self.old).read_faults }
         ensures absents { (counts self.new).absents ≡ (counts self.old).absents };
 }

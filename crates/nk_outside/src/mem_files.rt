@@ -1,8 +1,8 @@
-ghost use Rattle.std.specs.Prelude.{◌≡◌, ℕ, Some, IfOk, OnOk, OnErr, IsErrOf};
+ghost use Rattle.std.specs.Prelude.{◌≡◌, ◌≢◌, ℕ, Some, Err, IfOk, OnOk, OnErr, IsErrOf};
 ghost use Rattle.std.specs.Global.{Vec};
 ghost use Rattle.indexmap.specs.IndexMap.{insert_entry};
 ghost use Rattle.nk_base.specs.Text.{text_eq};
-ghost use Rattle.nk_outside.specs.Count.{counted, HasCause};
+ghost use Rattle.nk_outside.specs.Count.{counted, CountsFault};
 ghost use Rattle.nk_outside.specs.Held.{Reads, Lacks, IsTooLong, SameElsewhere, Holds};
 ghost use Rattle.nk_outside.specs.Memory.{names, counts_of, fails_next, read_answer, read_leaves, write_leaves, IsAnswer, FailsWhere};
 
@@ -46,8 +46,10 @@ impl Files for MemFiles {
         ensures lacks { IsErrOf result ReadFault.Absent → Lacks (Some (names self.old)) name.now }
         ensures too_long { IsErrOf result ReadFault.TooLong → IsTooLong (Some (names self.old)) name.now }
         ensures calls { (counts_of self.new).calls ≡ counted (counts_of self.old).calls }
-        ensures failed { HasCause (counts_of self.old).read_faults (counts_of self.new).read_faults (IsErrOf result ReadFault.Failed) }
-        ensures absent { HasCause (counts_of self.old).absents (counts_of self.new).absents (IsErrOf result ReadFault.Absent) }
+        ensures failed { CountsFault (counts_of self.old).read_faults (counts_of self.new).read_faults (IsErrOf result ReadFault.Failed) }
+        ensures absent { CountsFault (counts_of self.old).absents (counts_of self.new).absents (IsErrOf result ReadFault.Absent) }
+        ensures kept { result ≢ Err ReadFault.Failed → (counts_of self.new).read_faults ≡ (counts_of self.old).read_faults }
+        ensures found { result ≢ Err ReadFault.Absent → (counts_of self.new).absents ≡ (counts_of self.old).absents }
         ensures writes { (counts_of self.new).write_faults ≡ (counts_of self.old).write_faults }
         ensures answer { IsAnswer (read_answer (fails_next self.old) (names self.old name.now)) result }
         ensures leaves { self.new ≡ read_leaves (fails_next self.old) (names self.old name.now) self.old }
@@ -78,7 +80,8 @@ impl Files for MemFiles {
         ensures others { SameElsewhere name.now (Some (names self.old)) (Some (names self.new)) }
         ensures memory { IsErrOf result WriteFault.Memory → Some (names self.new) ≡ Some (names self.old) }
         ensures calls { (counts_of self.new).calls ≡ counted (counts_of self.old).calls }
-        ensures failed { HasCause (counts_of self.old).write_faults (counts_of self.new).write_faults (IsErrOf result WriteFault.Failed) }
+        ensures failed { CountsFault (counts_of self.old).write_faults (counts_of self.new).write_faults (IsErrOf result WriteFault.Failed) }
+        ensures kept { result ≢ Err WriteFault.Failed → (counts_of self.new).write_faults ≡ (counts_of self.old).write_faults }
         ensures reads { (counts_of self.new).read_faults ≡ (counts_of self.old).read_faults }
         ensures absents { (counts_of self.new).absents ≡ (counts_of self.old).absents }
         ensures listed { FailsWhere (fails_next self.old) result }

@@ -1,5 +1,5 @@
-ghost use Rattle.std.specs.Prelude.{◌≡◌, ◌≢◌, ◌++◌, [], Some, is_ok, OnOk, OnErr, IsOk, IsErrOf, if◌then◌else◌};
-ghost use Rattle.nk_outside.specs.Count.{HasCause};
+ghost use Rattle.std.specs.Prelude.{◌≡◌, ◌≢◌, ◌++◌, [], Some, Err, is_ok, OnOk, OnErr, IsOk, IsErrOf, if◌then◌else◌};
+ghost use Rattle.nk_outside.specs.Count.{CountsFault};
 ghost use Rattle.nk_outside.specs.Memory.{put_fails, put_leaves, FailsWhere};
 ghost use Rattle.nk_outside.specs.Taken.{Took, TookFront};
 
@@ -34,7 +34,8 @@ impl Sink for MemSink {
         ensures err { OnErr result (TookFront (Some self.old.bytes.items) (Some self.new.bytes.items) piece.now) }
         ensures empty { piece.now ≡ [] → IsOk result }
         ensures nothing { piece.now ≡ [] → self.new ≡ self.old }
-        ensures failed { HasCause self.old.faults self.new.faults (IsErrOf result WriteFault.Failed) }
+        ensures failed { CountsFault self.old.faults self.new.faults (IsErrOf result WriteFault.Failed) }
+        ensures kept { result ≢ Err WriteFault.Failed → self.new.faults ≡ self.old.faults }
         ensures listed { piece.now ≢ [] → FailsWhere (put_fails self.old) result }
         ensures leaves { piece.now ≢ [] → self.new ≡ record (put_leaves (put_fails self.old) self.old) { bytes = self.new.bytes } }
         ensures bytes { self.new.bytes.items ≡ (if is_ok result then self.old.bytes.items ++ piece.now else self.old.bytes.items) }

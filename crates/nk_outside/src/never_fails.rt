@@ -1,5 +1,5 @@
 ghost use Rattle.std.specs.Prelude.{◌≡◌, ◌++◌, [], Some, is_ok, OnOk, OnErr, IfErr, IsOk, IsErrOf, if◌then◌else◌};
-ghost use Rattle.nk_outside.specs.Count.{HasCause};
+ghost use Rattle.nk_outside.specs.Count.{CountsFault};
 ghost use Rattle.nk_outside.specs.Taken.{Took, TookFront};
 
 use crate::{Sink, WriteFault};
@@ -25,7 +25,7 @@ impl Sink for NeverFails {
         ensures err { OnErr result (TookFront (Some self.old.bytes.items) (Some self.new.bytes.items) piece.now) }
         ensures empty { piece.now ≡ [] → IsOk result }
         ensures nothing { piece.now ≡ [] → self.new ≡ self.old }
-        ensures failed { HasCause 0 0 (IsErrOf result WriteFault.Failed) }
+        ensures failed { CountsFault 0 0 (IsErrOf result WriteFault.Failed) }
         ensures memory { IfErr result (λ fault. fault ≡ WriteFault.Memory) }
         ensures bytes { self.new.bytes.items ≡ (if is_ok result then self.old.bytes.items ++ piece.now else self.old.bytes.items) }
     {

@@ -1,7 +1,8 @@
-ghost use Rattle.std.specs.Prelude.{◌≡◌, ◌≢◌, ◌≤◌, ◌<◌, ℕ, List, length, IfOk, OnOk, IsErrOf, IsTrue};
+ghost use Rattle.std.specs.Prelude.{◌≡◌, ◌≢◌, ◌≤◌, ◌<◌, ℕ, List, length, None, Err, IfOk, OnOk, OnErr, IsErrOf, IsTrue};
 ghost use Rattle.std.specs.IoError.{error_kind};
 ghost use Rattle.std.specs.Io.KnownBytes.{Appends, Consumes, IsAtEnd};
-ghost use Rattle.nk_outside.specs.Held.{file_limit};
+ghost use Rattle.nk_outside.specs.Count.{counted, CountsFault};
+ghost use Rattle.nk_outside.specs.Held.{file_limit, Holds, SameElsewhere};
 
 use crate::{FILE_LIMIT, Files, ReadFault, WriteFault};
 use nk_base::Text;
@@ -15,9 +16,10 @@ const BLOCK: usize = 65_536;
 
 /// The files of the system. They tell no content.
 ///
-/// Proved is what the clauses of [`Files`] say where nothing is told, and that the loops take all that an opened file
-/// gives, and hand it all that is to be written. Trusted is that the system opens the file of the name, gives what it
-/// holds and keeps what it takes: no clause can say so. A name that isn't UTF-8 fails.
+/// Proved is what the clauses of [`Files`] say where nothing is told: how the counts go, and that what is read has at
+/// most [`FILE_LIMIT`] bytes. Of the loops inside it is proved that they take all that an opened file has left, and hand
+/// it each byte that is to be written. That the calls run them on the file of the name, and that the system gives what
+/// it holds and keeps what it takes, no clause says: it is tested. A name that isn't UTF-8 fails, and is never absent.
 #[derive(Drop)]
 pub struct OsFiles<R> {
     /// What opens files.
@@ -131,7 +133,17 @@ impl<R: rt::Files> Files for OsFiles<R> {
         answer
     }
 
-    fn write(&mut self, _alloc: Global, name: &Text, bytes: &[u8]) -> Result<(), WriteFault> {
+    /// Beside what each write promises: the one fault is `Failed`, also where the system is short of memory.
+    fn write(&mut self, _alloc: Global, name: &Text, bytes: &[u8]) -> Result<(), WriteFault>
+        ensures holds { OnOk result (Holds None name.now bytes.now) }
+        ensures others { SameElsewhere name.now None None }
+        ensures calls { self.new.calls ≡ counted self.old.calls }
+        ensures failed { CountsFault self.old.write_faults self.new.write_faults (IsErrOf result WriteFault.Failed) }
+        ensures kept { result ≢ Err WriteFault.Failed → self.new.write_faults ≡ self.old.write_faults }
+        ensures reads { self.new.read_faults ≡ self.old.read_faults }
+        ensures absents { self.new.absents ≡ self.old.absents }
+        ensures fault { OnErr result (result ≡ Err WriteFault.Failed) }
+    {
         self.calls = self.calls.saturating_add(1);
         if let Ok(path) = str::from_utf8(name.as_bytes())
             && let Ok(mut file) = File::create(&self.system, path)

@@ -1,6 +1,6 @@
-ghost use Rattle.std.specs.Prelude.{◌≡◌, [], None, Err, OnOk, OnErr, IsOk, IsErrOf};
+ghost use Rattle.std.specs.Prelude.{◌≡◌, ◌≢◌, [], None, Err, OnOk, OnErr, IsOk, IsErrOf};
 ghost use Rattle.std.specs.Io.KnownBytes.{Appends};
-ghost use Rattle.nk_outside.specs.Count.{HasCause};
+ghost use Rattle.nk_outside.specs.Count.{CountsFault};
 ghost use Rattle.nk_outside.specs.Handed.{AppendsFront};
 ghost use Rattle.nk_outside.specs.Taken.{Took, TookFront};
 
@@ -42,7 +42,8 @@ impl<W: Write> Sink for OsSink<W> {
         ensures err { OnErr result (TookFront None None piece.now) }
         ensures empty { piece.now ≡ [] → IsOk result }
         ensures nothing { piece.now ≡ [] → self.new ≡ self.old }
-        ensures failed { HasCause self.old.faults self.new.faults (IsErrOf result WriteFault.Failed) }
+        ensures failed { CountsFault self.old.faults self.new.faults (IsErrOf result WriteFault.Failed) }
+        ensures kept { result ≢ Err WriteFault.Failed → self.new.faults ≡ self.old.faults }
         ensures handed { OnOk result (Appends (W.contents self.old.writer) (W.contents self.new.writer) piece.now) }
         ensures front { OnErr result (AppendsFront (W.contents self.old.writer) (W.contents self.new.writer) piece.now) }
         ensures fault { OnErr result (result ≡ Err WriteFault.Failed) }

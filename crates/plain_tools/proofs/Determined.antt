@@ -1,5 +1,5 @@
 -- A plain text is assembled in one way, or fails at one line.
-use Rattle.std.proofs.Common.{◌≡◌, ℕ, suc, zero, ◌<◌, List, [], ◌∷◌, ◌++◌, take, slice_get, Some, refl, sym, ap, ◌∙◌, subst, inl, inr, arith}
+use Rattle.std.proofs.Common.{◌≡◌, ℕ, suc, zero, ◌+◌, ◌<◌, List, [], ◌∷◌, ◌++◌, take, slice_get, Some, refl, sym, ap, ◌∙◌, subst, inl, inr, arith}
 use Rattle.std.specs.Prelude.{Bool, true, false, Result, Ok, Err, IsTrue, IsFalse}
 use Rattle.std.specs.Global.{Vec}
 use Rattle.plain_tree.specs.Description.{Description}
@@ -69,3 +69,31 @@ same_answer d text (Err (faults.NoMatch line)) (Err faults.Memory) one x y = tt
 same_answer d text (Err (faults.NoMatch line)) (Err faults.NotBuilt) one x y = both _ x.0 y
 same_answer d text (Err (faults.NoMatch line)) (Err (faults.NoMatch other)) one x y = one_failure d (lines text) line other x.1 y.1
 same_answer d text (Err (faults.NoMatch line)) (Ok w) one x y = none_fails d (lines text) w.items x.1.before x.1.line y.1 x.1.stands x.1.fails
+
+-- a line that gives words before lines of which one fails
+behind_line : (d : Description) (line : List ℕ) (more : List (List ℕ)) (front : List ℕ) (number : ℕ) → GivesWords d line front → FailsAt d more number → FailsAt d (line ∷ more) (number + 1)
+behind_line d line more front number gives f = record {
+  before = suc f.before;
+  is = omega (arith, f.is);
+  words = front ++ f.words;
+  assembled = (front, f.words, refl, gives, f.assembled);
+  line = f.line;
+  stands = f.stands;
+  fails = f.fails;
+}
+
+-- a first line that can't give words is the first that fails, unless it can't be that it gives none
+first_gives : (d : Description) (line : List ℕ) (more : List (List ℕ)) (ts : List LineToken) → line_tokens line ≡ ts
+    → ((number : ℕ) → FailsAt d (line ∷ more) number → ⊥) → ((front : List ℕ) → GivesWords d line front → ⊥) → ⊥
+first_gives d line more [] e safe none = none [] (inl (e, refl))
+first_gives d line more (t ∷ ts) e safe none =
+    let some : line_tokens line ≡ [] → ⊥ = λ h. cc in
+    let fails : HasNoMatch d line = record { tokens = some; none = λ w i. none (w ∷ []) (inr (w, some, i, refl)) } in
+    safe 1 (record { before = 0; is = refl; words = []; assembled = refl; line = line; stands = refl; fails = fails })
+
+-- it can't be that lines come to no words and none of them fails
+pub not_neither : (d : Description) (ls : List (List ℕ)) → ((words : List ℕ) → Assembles d ls words → ⊥) → ((number : ℕ) → FailsAt d ls number → ⊥) → ⊥
+not_neither d [] none safe = none [] refl
+not_neither d (line ∷ more) none safe =
+    first_gives d line more (line_tokens line) refl safe
+    (λ front gives. not_neither d more (λ ws a. none (front ++ ws) (front, ws, refl, gives, a)) (λ n f. safe (n + 1) (behind_line d line more front n gives f)))

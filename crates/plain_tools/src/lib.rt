@@ -26,5 +26,5 @@ pub use plain_image::plain_read;
 pub use run_laws::{has_outcome, longer_run, one_run};
 pub use simulator::PlainSim;
 pub use step::Step;
-pub use word_laws::{one_answer, one_word};
+pub use word_laws::{one_answer, one_word, some_answer};
 pub use words::{PlainFault, plain_words};

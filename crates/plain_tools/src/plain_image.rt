@@ -5,8 +5,8 @@ ghost use Rattle.image_file.specs.Seen.{picture_of};
 ghost use Rattle.plain_tree.specs.Description.{description_of};
 ghost use Rattle.plain_tree.specs.IsPlain.{IsPlain, word_width, pc_width};
 
-use image_file::Image;
 use crate::image_reader::read_words;
+use image_file::Image;
 use nk_base::Memory;
 use plain_tree::{Plain, pc_bits, word_bits};
 use std::alloc::Global;

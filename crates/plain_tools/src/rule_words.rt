@@ -8,9 +8,9 @@ ghost use Rattle.plain_tree.specs.Instruction.{IsInstruction};
 ghost use Rattle.plain_tree.specs.IsPlain.{IsPlain, first_of, first_part};
 ghost use Rattle.plain_tree.specs.LineToken.{Word};
 
-use crate::word_image::image_word;
 use crate::line::Token;
 use crate::matching::numbers_of;
+use crate::word_image::image_word;
 use indexmap::IndexSet;
 use nk_base::{Memory, Text};
 use plain_tree::Plain;

@@ -14,9 +14,9 @@ use crate::check_syntax::{first_part, is_syntax};
 use crate::check_word::are_fields;
 use crate::distinct::{are_apart, are_distinct, field_names};
 use crate::image::{image_width, is_image, leading_digits};
-use nml_tree::is_keyword;
 use crate::{Plain, PlainField, PlainRule};
 use nk_base::Memory;
+use nml_tree::is_keyword;
 use std::alloc::Global;
 
 /// Whether the description is plain: `plain_of` gives no other.

@@ -5,8 +5,8 @@ ghost use Rattle.plain_tree.specs.IsPlain.{IsField};
 ghost use Rattle.plain_tree.specs.IsPlain as spec;
 
 use crate::PlainField;
-use nml_tree::is_keyword;
 use nk_base::Ty;
+use nml_tree::is_keyword;
 
 /// Whether a rule may have the field.
 pub fn is_field(field: &PlainField) -> bool

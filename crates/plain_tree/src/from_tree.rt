@@ -10,8 +10,8 @@ use crate::check::is_plain;
 use crate::plain_action::places_of;
 use crate::plain_fields::{port, registers};
 use crate::plain_rule::rooted;
-use nml_tree::{Desc, Item};
 use nk_base::Memory;
+use nml_tree::{Desc, Item};
 use std::alloc::Global;
 
 /// The plain description that the tree is; `None` exactly where it is none.

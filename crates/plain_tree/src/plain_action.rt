@@ -8,12 +8,10 @@ ghost use Rattle.plain_tree.specs.Found.{places, with_first};
 ghost use Rattle.plain_tree.specs.PlainTree.{places_in, plain_value, plain_stmts};
 ghost use Rattle.plain_tree.specs.PlainTree as spec;
 
-use nml_tree::Action;
-use nml_tree::Expr;
-use nml_tree::Stmt;
 use crate::{PlainField, PlainStmt, PlainValue};
 use indexmap::IndexMap;
 use nk_base::{Memory, Text};
+use nml_tree::{Action, Expr, Stmt};
 use std::alloc::Global;
 
 /// The most fields or registers, since a place in the tree has 32 bits.

@@ -7,9 +7,8 @@ ghost use Rattle.plain_tree.specs.PlainTree.{plain_reg, plain_out, reg_of, out_o
 ghost use Rattle.plain_tree.specs.PlainTree as spec;
 
 use crate::PlainField;
-use nml_tree::Name;
-use nml_tree::{Item, Pars, Port, PortWord, Size, Storage, StorageWord, TypeExpr};
 use nk_base::{Memory, Text, Ty};
+use nml_tree::{Item, Name, Pars, Port, PortWord, Size, Storage, StorageWord, TypeExpr};
 use std::alloc::Global;
 
 /// The registers in front, as many as there are, and the items behind them.

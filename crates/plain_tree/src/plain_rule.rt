@@ -5,13 +5,12 @@ ghost use Rattle.plain_tree.specs.Description.{field_of, rule_of};
 ghost use Rattle.plain_tree.specs.Found.{places};
 ghost use Rattle.plain_tree.specs.PlainTree as spec;
 
-use nml_tree::{Arg, Template};
 use crate::plain_action::{action, places_of};
 use crate::plain_fields::fields;
-use nml_tree::{Item, OpRule, OrRule, RuleWord};
 use crate::{PlainField, PlainRule};
 use indexmap::IndexMap;
 use nk_base::{Memory, Text};
+use nml_tree::{Arg, Item, OpRule, OrRule, RuleWord, Template};
 use std::alloc::Global;
 
 /// The rules of the root in front, over registers of these places and this port.

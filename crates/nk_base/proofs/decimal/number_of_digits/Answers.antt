@@ -1,16 +1,12 @@
--- A step that overflows has reached 2^128.
-use Rattle.std.proofs.Common.{◌^◌, ◌∙◌, get_or, arith}
-use Rattle.nk_base.proofs.DigitsValue.{digit_is, outgrown, whole}
+use Rattle.std.proofs.Common.{◌-◌, ◌^◌, ◌∙◌, ap, cond, Some, None}
+use Rattle.std.specs.Str.Parse.{digits_value}
+use Rattle.nk_base.proofs.DigitsValue.{decimal_digits, most_is_below}
 use Rattle.nk_base.proofs.decimal.number_of_digits.Goals as goal
 
-pub returns-in_err-checked_mul : goal.returns-in_err-checked_mul
-returns-in_err-checked_mul c =
-    c.from_residual.ensures ∙ outgrown (2 ^ 128) c.args.digits.now c.loop-digit.digit-index c.loop-digit.value (omega arith) c.loop-digit.invariant.0 (omega (arith, c.in_err-checked_mul.ensures))
-
-pub returns-in_err-value : goal.returns-in_err-value
-returns-in_err-value c =
-    let digit = digit_is (get_or c.args.digits.now c.loop-digit.digit-index 0) (c.requires c.loop-digit.digit-index 0 (omega arith)) in
-    c.from_residual-in_err-value.ensures ∙ outgrown (2 ^ 128) c.args.digits.now c.loop-digit.digit-index c.loop-digit.value (omega arith) c.loop-digit.invariant.0 (omega (arith, c.in_err-value.ensures))
+pub number_up_to-requires-clause-digits : goal.number_up_to-requires-clause-digits
+number_up_to-requires-clause-digits c = decimal_digits c.args.digits.now c.requires
 
 pub returns : goal.returns
-returns c = whole (2 ^ 128) c.args.digits.now c.loop-digit.digit-index c.loop-digit.value (omega arith) (omega arith) c.loop-digit.invariant.0
+returns c =
+    c.number_up_to.ensures
+    ∙ ap (λ b. cond b (Some (digits_value 10 c.args.digits.now)) None) (most_is_below (digits_value 10 c.args.digits.now) (2 ^ 128 - 1))
