@@ -43,7 +43,7 @@ shorter_line c cs [] rest h n e g = absurd (cc)
 shorter_line c cs (d ∷ []) rest h n e g = let i : c ≡ d = cc in let k : eqb c 10 ≡ eqb d 10 = ap (λ x. eqb x 10) i in absurd (cc)
 shorter_line c cs (d ∷ f ∷ text) rest h n e g = n.none (f ∷ text) rest (cc) (and_parts (not (eqb d 10)) (is_ended (f ∷ text)) g).1
 
-line_step : (c : ℕ) (cs : List ℕ) → eqb c 10 ≡ false → Narrows is_ended (c ∷ cs) cs
+pub line_step : (c : ℕ) (cs : List ℕ) → eqb c 10 ≡ false → Narrows is_ended (c ∷ cs) cs
 line_step c cs h = record {
   back = λ after b. record { text = c ∷ b.text; is = ap (λ t. c ∷ t) b.is; passes = longer_line c b.text h b.passes };
   none = λ n. record { none = λ text rest e g. shorter_line c cs text rest h n e g };
@@ -79,7 +79,7 @@ shorter_block c cs (d ∷ []) rest o n e g = absurd (cc)
 shorter_block c cs (d ∷ f ∷ []) rest o n e g = let i : c ≡ d = cc in no_end_here c f cs rest o (cc) (ap (λ x. eqb x 42 && eqb f 47) i ∙ g)
 shorter_block c cs (d ∷ f ∷ k ∷ text) rest o n e g = n.none (f ∷ k ∷ text) rest (cc) (and_parts (not (eqb d 42 && eqb f 47)) (is_shut (f ∷ k ∷ text)) g).1
 
-block_step : (c : ℕ) (cs : List ℕ) → IsOpen c cs → Narrows is_shut (c ∷ cs) cs
+pub block_step : (c : ℕ) (cs : List ℕ) → IsOpen c cs → Narrows is_shut (c ∷ cs) cs
 block_step c cs o = record {
   back = λ after b. record { text = c ∷ b.text; is = ap (λ t. c ∷ t) b.is; passes = longer_block c cs b.text after o b.is b.passes };
   none = λ n. record { none = λ text rest e g. shorter_block c cs text rest o n e g };

@@ -5,3 +5,4 @@ pub mod Cuts
 pub mod Lengths
 pub mod Limits
 pub mod Begun
+pub mod Settled

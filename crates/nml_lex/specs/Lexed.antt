@@ -76,9 +76,8 @@ pub record IsStuckAt (bytes : List ℕ) (at : ℕ) : Type 0 where
 abbrev pub piece_of : Token → Piece
 piece_of t = record { at = t.at; text = t.text.now }
 
--- a fault that cutting the bytes has: they are stuck at this place; want of memory is free
-abbrev pub IsFaultOf : List ℕ → DescFault → Type 0
-IsFaultOf bytes (faults.Lex at) = IsStuckAt bytes at
-IsFaultOf bytes (faults.Syntax at) = ⊥
-IsFaultOf bytes (faults.Float at) = ⊥
-IsFaultOf bytes faults.Memory = Unit {0}
+-- a fault of tokens: the bytes are stuck at this place; want of memory is free, and no other fault is one
+abbrev pub IsLexFault : List ℕ → DescFault → Type 0
+IsLexFault bytes (faults.Lex at) = IsStuckAt bytes at
+IsLexFault bytes faults.Memory = Unit {0}
+IsLexFault bytes _ = ⊥

@@ -1,4 +1,4 @@
-ghost use Rattle.std.specs.Prelude.{◌≡◌, ℕ, List};
+ghost use Rattle.std.specs.Prelude.{◌≡◌, ◌⊎◌, ℕ, List};
 ghost use Rattle.nml_lex.specs.Lexed.{HasPieces, IsStuckAt, Piece};
 
 /// A law: no bytes have two lists of tokens; where they have one they are stuck nowhere; and they are stuck at one place at most.
@@ -8,4 +8,11 @@ pub fn one_lexing()
     ensures one { (bytes : List ℕ) (ps qs : List Piece) → HasPieces bytes ps → HasPieces bytes qs → ps ≡ qs }
     ensures never { (bytes : List ℕ) (ps : List Piece) (at : ℕ) → HasPieces bytes ps → IsStuckAt bytes at → ⊥ }
     ensures place { (bytes : List ℕ) (at other : ℕ) → IsStuckAt bytes at → IsStuckAt bytes other → at ≡ other }
+{}
+
+/// A law: any bytes have tokens, or a place where they are stuck; one of the two can be computed from them.
+///
+/// What a token is, is this project's own rule.
+pub fn some_lexing()
+    ensures { (bytes : List ℕ) → ((ps : List Piece) × HasPieces bytes ps) ⊎ ((at : ℕ) × IsStuckAt bytes at) }
 {}

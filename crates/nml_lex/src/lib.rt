@@ -6,10 +6,8 @@ mod limit;
 mod prefix;
 mod scan;
 mod space;
-#[cfg(test)]
-mod tests;
 mod word;
 
-pub use law::one_lexing;
+pub use law::{one_lexing, some_lexing};
 pub use limit::number_value;
 pub use scan::{Token, Tokens, lex};

@@ -1,7 +1,7 @@
 -- Readings put together keep the law: one behind another, made into something else, and what the first symbol tells.
-use Rattle.std.proofs.Common.{◌≡◌, ℕ, ◌+◌, List, [], ◌∷◌, ◌++◌, Option, Some, None, refl, ap, sym, ◌∙◌, subst, arith, append_assoc, ⊎_elim}
+use Rattle.std.proofs.Common.{◌≡◌, ℕ, suc, ◌+◌, List, [], ◌∷◌, ◌++◌, length, Option, Some, None, refl, ap, sym, ◌∙◌, subst, arith, append_assoc, ⊎_elim}
 use Rattle.nml_tree.specs.Symbol.{Symbol, fixed}
-use Rattle.nml_read.specs.Reading.{Read, Found, Stuck, after}
+use Rattle.nml_read.specs.Reading.{Read, Found, Stuck, after, mark}
 use Rattle.nml_read.specs.Readings.{Reading, ◌>>>◌, made, given, sign}
 use Rattle.nml_read.proofs.Symbols.{mark_is, mark_front}
 use Rattle.nml_read.proofs.Complete.{on}
@@ -9,6 +9,7 @@ use Rattle.nml_read.proofs.Sound.{found_is, after_found, stuck_is_not_found}
 use Rattle.nml_read.proofs.Local.{Locally, IsLocal, rest_of, none_left, stuck_at, taken, found_local, after_local, mark_local}
 use Rattle.nml_read.proofs.Viable.{stuck_is, after_stuck, mark_stuck}
 use Rattle.nml_read.proofs.OneAttribute.{beyond}
+use Rattle.nml_read.proofs.Settling.{Settles, settles_at_once, settles_later, settles_alike, settles_behind, no_longer, mark_told}
 use Rattle.nml_read.proofs.Lawful.{Eventually, Begins, Reads, IsLawful}
 
 -- a lawful reading of things of which there is one
@@ -47,6 +48,7 @@ other_law spelled good other ends other_ends reads to from ends_to ends_from l =
         viable = λ n ss rest e.
             let b = l.law.viable n ss rest e in
             record { front = b.front; further = b.further; thing = b.thing; left = b.left; fits = to b.thing b.fits; whole = b.whole };
+        settled = l.law.settled;
       };
       thing = l.thing;
       fits = to l.thing l.fits;
@@ -64,6 +66,7 @@ given_law spelled x none =
         complete = λ y rest g e. (0, λ n le. ap (λ u. Found x (u ++ rest)) (ap spelled g ∙ none) ∙ ap (λ z. Found z rest) (sym g));
         local = λ n. found_local x;
         viable = λ n ss rest e. found_is_not_stuck x ss rest e;
+        settled = λ ss. settles_at_once (length ss) (λ n. given x n ss) (Found x ss) tt (λ n. refl);
       };
       thing = x;
       fits = refl;
@@ -78,6 +81,7 @@ sign_law text =
         complete = λ at rest g e. (0, λ n le. mark_front text at rest);
         local = λ n. mark_local text;
         viable = λ n ss rest e. record { front = []; further = fixed 0 text; thing = 0; left = mark_stuck text ss rest e; fits = tt; whole = refl };
+        settled = λ ss. settles_at_once (length ss) (λ n. sign text n ss) (mark text ss) (mark_told text ss) (λ n. refl);
       };
       thing = 0;
       fits = tt;
@@ -145,6 +149,13 @@ then_law {A = A} {B = B} spelled good ends first spelled2 good2 ends2 second l m
             (λ i. found_is_not_stuck (h.0, i.0) i.1 rest i.3)
             (after_stuck (second n h.1) (λ y s. Found (h.0, y) s) rest h.3))
             (after_stuck (first n ss) (λ x s. after (second n s) (λ y t. Found (x, y) t)) rest e);
+        settled = λ ss.
+            settles_behind (length ss) (λ n. first n ss) (λ n x s. after (second n s) (λ y t. Found (x, y) t)) (l.law.settled ss)
+            (λ x s e.
+            settles_later (length s) (length ss) (λ n. after (second n s) (λ y t. Found (x, y) t))
+            (no_longer ss (spelled x) s (l.law.sound (suc (length ss)) ss x s e).whole)
+            (settles_behind (length s) (λ n. second n s) (λ n y t. Found (x, y) t) (m.law.settled s)
+            (λ y t i. settles_at_once (length s) (λ n. Found (x, y) t) (Found (x, y) t) tt (λ n. refl))));
       };
       thing = (l.thing, m.thing);
       fits = (l.fits, m.fits);
@@ -199,6 +210,9 @@ made_law make spelled good reads spelled2 ends2 same l =
             record { front = b.front; further = b.further; thing = make b.thing; left = b.left; fits = (b.thing, b.fits, refl); whole = b.whole ∙ sym (same b.thing) })
             (λ h. found_is_not_stuck (make h.0) h.1 rest h.3)
             (after_stuck (reads n ss) (λ x s. Found (make x) s) rest e);
+        settled = λ ss.
+            settles_behind (length ss) (λ n. reads n ss) (λ n x s. Found (make x) s) (l.law.settled ss)
+            (λ x s e. settles_at_once (length ss) (λ n. Found (make x) s) (Found (make x) s) tt (λ n. refl));
       };
       thing = make l.thing;
       fits = (l.thing, l.fits, refl);
@@ -289,6 +303,17 @@ module _ {A : Type 0} (spelled : A → List Symbol) (good : A → Type 0) (ends 
               whole = ap (λ u. s ∷ u) v.whole ∙ sym (b.front v.thing v.fits);
             }
 
+    -- the reading settles behind the first symbol, or at once
+    told_settled : (ss : List Symbol) → Settles (length ss) (λ n. reads n ss)
+    told_settled [] = settles_at_once 0 (λ n. reads n []) (Stuck []) tt empty
+    told_settled (s ∷ ss) = by (pick s) refl
+      where
+        by : (o : Option (Reading A)) → pick s ≡ o → Settles (length (s ∷ ss)) (λ n. reads n (s ∷ ss))
+        by None i = settles_at_once (length (s ∷ ss)) (λ n. reads n (s ∷ ss)) (Stuck (s ∷ ss)) tt (λ n. goes n s ss ∙ ap (picked n s ss) i)
+        by (Some next) i =
+            settles_later (length ss) (length (s ∷ ss)) (λ n. reads n (s ∷ ss)) (omega arith)
+            (settles_alike (length ss) (λ n. next n ss) (λ n. reads n (s ∷ ss)) (λ n. goes n s ss ∙ ap (picked n s ss) i) ((each s next i).reading.law.settled ss))
+
     -- so the reading is lawful, if each that is picked is so
     pub told_law : IsReading spelled good ends reads
-    told_law = record { law = record { sound = told_sound; complete = told_complete; local = told_local; viable = told_viable }; thing = thing; fits = fits }
+    told_law = record { law = record { sound = told_sound; complete = told_complete; local = told_local; viable = told_viable; settled = told_settled }; thing = thing; fits = fits }

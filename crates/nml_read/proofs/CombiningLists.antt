@@ -1,5 +1,5 @@
 -- Readings of lists keep the law.
-use Rattle.std.proofs.Common.{◌≡◌, ℕ, zero, suc, ◌+◌, ◌≤◌, List, [], ◌∷◌, ◌++◌, Option, Some, None, refl, ap, sym, ◌∙◌, subst, arith}
+use Rattle.std.proofs.Common.{◌≡◌, ℕ, zero, suc, ◌+◌, ◌<◌, ◌≤◌, List, [], ◌∷◌, ◌++◌, length, Option, Some, None, refl, ap, sym, ◌∙◌, subst, arith}
 use Rattle.std.proofs.Common.{append_assoc, append-nil, ⊎_elim}
 use Rattle.std.specs.Prelude.{flat_map}
 use Rattle.nml_tree.specs.Symbol.{Symbol}
@@ -10,6 +10,7 @@ use Rattle.nml_read.proofs.Complete.{on}
 use Rattle.nml_read.proofs.Sound.{found_is, after_found}
 use Rattle.nml_read.proofs.Local.{IsLocal, unread_locally, found_local, after_local}
 use Rattle.nml_read.proofs.Viable.{after_stuck}
+use Rattle.nml_read.proofs.Settling.{Settles, settles_at_once, settles_later, settles_alike, settles_one_more, settles_behind, no_longer}
 use Rattle.nml_read.proofs.Lawful.{Eventually, Begins, Reads}
 use Rattle.nml_read.proofs.Combining.{IsReading, Any, Anywhere, found_is_not_stuck, other_law}
 use Rattle.nml_read.proofs.CombiningMarks.{by_mark_local}
@@ -146,10 +147,47 @@ module _ {A : Type 0} (text : List ℕ) (spelled : A → List Symbol) (ends : A 
             (after_stuck (further text reads n h.1) (λ xs u. Found ((at, h.0) ∷ xs) u) rest h.3))
             (after_stuck (reads n s) (λ x t. after (further text reads n t) (λ xs u. Found ((at, x) ∷ xs) u)) rest f)
 
+    -- where the mark is not next the reading settles at once
+    settled_none : (ss : List Symbol) → behind text ss ≡ None → Settles (length ss) (λ n. further text reads n ss)
+    settled_none ss i = record { comes = Found [] ss; told = tt; is = none }
+      where
+        none : (n : ℕ) → length ss < n → further text reads n ss ≡ Found [] ss
+        none zero lt = absurd (omega (arith, lt))
+        none (suc n) lt = ap (further_from reads (λ s. further text reads n s) n ss) i
+
+    -- and behind a mark where the reading of fewer symbols does
+    settled_some : (ss s : List Symbol) (at : ℕ) → behind text ss ≡ Some (at, s)
+        → ((t : List Symbol) → length t ≤ length s → Settles (length t) (λ n. further text reads n t)) → Settles (length ss) (λ n. further text reads n ss)
+    settled_some ss s at i others =
+        settles_later (suc (length s)) (length ss) (λ n. further text reads n ss) (omega (arith, ap length (behind_is text ss at s i)))
+        (settles_one_more (length s) (λ n. further text reads n ss)
+        (settles_alike (length s) (λ n. after (reads n s) (λ x t. after (further text reads n t) (λ xs u. Found ((at, x) ∷ xs) u)))
+        (λ n. further text reads (suc n) ss) (λ n. ap (further_from reads (λ t. further text reads n t) n ss) i)
+        (settles_behind (length s) (λ n. reads n s) (λ n x t. after (further text reads n t) (λ xs u. Found ((at, x) ∷ xs) u)) (l.law.settled s)
+        (λ x t e.
+        let less = no_longer s (spelled x) t (l.law.sound (suc (length s)) s x t e).whole in
+        settles_later (length t) (length s) (λ n. after (further text reads n t) (λ xs u. Found ((at, x) ∷ xs) u)) less
+        (settles_behind (length t) (λ n. further text reads n t) (λ n xs u. Found ((at, x) ∷ xs) u) (others t less)
+        (λ xs u f. settles_at_once (length t) (λ n. Found ((at, x) ∷ xs) u) (Found ((at, x) ∷ xs) u) tt (λ n. refl)))))))
+
+    -- so it always does
+    list_settled : (k : ℕ) (ss : List Symbol) → length ss ≤ k → Settles (length ss) (λ n. further text reads n ss)
+    list_settled zero ss le = by (behind text ss) refl
+      where
+        by : (o : Option (ℕ × List Symbol)) → behind text ss ≡ o → Settles (length ss) (λ n. further text reads n ss)
+        by None i = settled_none ss i
+        by (Some (at, s)) i = absurd (omega (arith, le, ap length (behind_is text ss at s i)))
+    list_settled (suc k) ss le = by (list_settled k) (behind text ss) refl
+      where
+        by : ((t : List Symbol) → length t ≤ k → Settles (length t) (λ n. further text reads n t)) → (o : Option (ℕ × List Symbol)) → behind text ss ≡ o
+            → Settles (length ss) (λ n. further text reads n ss)
+        by others None i = settled_none ss i
+        by others (Some (at, s)) i = settled_some ss s at i (λ t less. others t (omega (arith, le, less, ap length (behind_is text ss at s i))))
+
     -- so lists are read lawfully
     pub further_law : IsReading (flat_map each) Any (list_ends text ends) (further text reads)
     further_law = record {
-      law = record { sound = list_sound; complete = λ xs rest g e. list_complete xs rest e; local = list_local; viable = list_viable };
+      law = record { sound = list_sound; complete = λ xs rest g e. list_complete xs rest e; local = list_local; viable = list_viable; settled = λ ss. list_settled (length ss) ss (omega arith) };
       thing = [];
       fits = tt;
     }

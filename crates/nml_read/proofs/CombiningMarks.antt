@@ -1,5 +1,5 @@
 -- Readings that a mark in front tells keep the law, and so do those of what may be absent.
-use Rattle.std.proofs.Common.{◌≡◌, ◌⊎◌, inl, inr, ℕ, List, [], ◌∷◌, ◌++◌, Option, Some, None, refl, ap, sym, ◌∙◌, subst}
+use Rattle.std.proofs.Common.{◌≡◌, ◌⊎◌, inl, inr, ℕ, List, [], ◌∷◌, ◌++◌, length, Option, Some, None, refl, ap, sym, ◌∙◌, subst, arith}
 use Rattle.std.proofs.Common.{⊎_elim, Bool, true, false}
 use Rattle.std.specs.Prelude.{if◌then◌else◌}
 use Rattle.nk_base.specs.Text.{text_eq}
@@ -9,6 +9,7 @@ use Rattle.nml_read.specs.Readings.{Reading, made, given, optional, optional_fro
 use Rattle.nml_read.proofs.Symbols.{behind_is, behind_front}
 use Rattle.nml_read.proofs.Local.{Locally, IsLocal, rest_of, none_left, first_is, taken}
 use Rattle.nml_read.proofs.OneAttribute.{beyond}
+use Rattle.nml_read.proofs.Settling.{Settles, settles_later, settles_alike}
 use Rattle.nml_read.proofs.Lawful.{Eventually, Begins, Reads}
 use Rattle.nml_read.proofs.Combining.{IsReading, Any, Anywhere, other_law, given_law, IsMade, made_law, Behind}
 use Rattle.nml_read.proofs.CombiningWords.{made_front}
@@ -128,10 +129,26 @@ module _ {A : Type 0} (text : List ℕ) (reads otherwise : Reading A) (others : 
                   whole = ap (λ u. Symbol.Fixed at text ∷ u) v.whole ∙ sym (b.front v.thing v.fits);
                 }
 
+        -- the reading settles as the one of the two does
+        by_mark_settled : (ss : List Symbol) → Settles (length ss) (λ n. reads n ss)
+        by_mark_settled ss = by (behind text ss) refl
+          where
+            by : (o : Option (ℕ × List Symbol)) → behind text ss ≡ o → Settles (length ss) (λ n. reads n ss)
+            by None i = settles_alike (length ss) (λ n. otherwise n ss) (λ n. reads n ss) (λ n. none n ss i) (l.law.settled ss)
+            by (Some (at, s)) i =
+                settles_later (length s) (length ss) (λ n. reads n ss) (omega (arith, ap length (behind_is text ss at s i)))
+                (settles_alike (length s) (λ n. others at n s) (λ n. reads n ss) (λ n. some n ss at s i) ((m at).reading.law.settled s))
+
         -- so the reading is lawful, if both are so
         pub by_mark_law : IsReading spelled good ends reads
         by_mark_law = record {
-          law = record { sound = by_mark_sound; complete = by_mark_complete; local = by_mark_local l.law.local (λ at. (m at).reading.law.local); viable = by_mark_viable };
+          law = record {
+            sound = by_mark_sound;
+            complete = by_mark_complete;
+            local = by_mark_local l.law.local (λ at. (m at).reading.law.local);
+            viable = by_mark_viable;
+            settled = by_mark_settled;
+          };
           thing = l.thing;
           fits = to l.thing l.fits;
         }

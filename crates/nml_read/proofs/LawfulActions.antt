@@ -28,6 +28,8 @@ use Rattle.nml_read.proofs.Sound.{sound}
 use Rattle.nml_read.proofs.SoundStatements.{sound_block}
 use Rattle.nml_read.proofs.Local.{climb_local}
 use Rattle.nml_read.proofs.LocalStatements.{statements_local}
+use Rattle.nml_read.proofs.Settled.{climb_settles}
+use Rattle.nml_read.proofs.SettledStatements.{statements_settle}
 use Rattle.nml_read.proofs.Viable.{viable}
 use Rattle.nml_read.proofs.ViableStatements.{viable_block}
 use Rattle.nml_read.proofs.OneAttribute.{NoAction}
@@ -59,6 +61,7 @@ formula_law =
             let a = complete x 0 199 rest g.leveled (omega arith) g.shallow e in
             (a.0, λ n le. lift_climb a.0 n 0 199 (formula_spelling x ++ rest) x rest le a.1);
         local = λ n. climb_local n 0 199;
+        settled = climb_settles 0 199;
         viable = λ n ss rest e.
             let v = viable n 0 199 ss rest (lit≤ tt) (lit≤ tt) e in
             record {
@@ -89,6 +92,7 @@ blocks_law =
                   (statements_more a.0 n 198 (block_spelling b ++ rest) le) a.1,
             );
         local = λ n. statements_local n 198;
+        settled = statements_settle 198;
         viable = λ n ss rest e.
             let v = viable_block n 198 ss rest (lit≤ tt) e in
             record {

@@ -1,5 +1,5 @@
 -- The reading of types and parameters keeps the law.
-use Rattle.std.proofs.Common.{◌≡◌, ℕ, List, [], ◌∷◌, ◌++◌, Option, Some, None, option_map, refl, ap, subst, Bool, true, false}
+use Rattle.std.proofs.Common.{◌≡◌, ℕ, List, [], ◌∷◌, ◌++◌, length, Option, Some, None, option_map, refl, ap, subst, Bool, true, false}
 use Rattle.std.specs.Prelude.{codes, flat_map, if◌then◌else◌}
 use Rattle.nk_base.specs.Text.{text_eq}
 use Rattle.nml_tree.specs.declared.names.Name.{Name}
@@ -19,6 +19,7 @@ use Rattle.nml_read.proofs.Flat.{join4}
 use Rattle.nml_read.proofs.Sound.{found_is}
 use Rattle.nml_read.proofs.Local.{Locally, IsLocal, found_before}
 use Rattle.nml_read.proofs.OneAttribute.{beyond}
+use Rattle.nml_read.proofs.Settling.{Settles, settles_at_once, settles_alike}
 use Rattle.nml_read.proofs.Lawful.{Eventually, Begins, Reads}
 use Rattle.nml_read.proofs.Combining.{IsReading, Any, Anywhere, found_is_not_stuck, then_free, sign_law, IsMade, made_law, made_all, picked, Behind, told_law}
 use Rattle.nml_read.proofs.CombiningWords.{made_front, OfWord, Word, word_each, single_behind, name_law, size_law}
@@ -253,6 +254,18 @@ pars_viable n ss rest e = by (behind (codes ")") ss) e
     }
     by (Some z) f = found_is_not_stuck None ss rest f
 
+-- the reading settles as that of some does, or at once
+pars_settled : (ss : List Symbol) → Settles (length ss) (λ n. pars n ss)
+pars_settled ss = by (behind (codes ")") ss) refl
+  where
+    by : (o : Option (ℕ × List Symbol)) → behind (codes ")") ss ≡ o → Settles (length ss) (λ n. pars n ss)
+    by None i = settles_alike (length ss) (λ n. made Some some_pars n ss) (λ n. pars n ss) (λ n. ap (pars_from n ss) i) (pars_from_law.law.settled ss)
+    by (Some z) i = settles_at_once (length ss) (λ n. pars n ss) (Found None ss) tt (λ n. ap (pars_from n ss) i)
+
 -- so parameters, or none, are read lawfully
 pub pars_law : IsReading pars_spelling Any pars_ends pars
-pars_law = record { law = record { sound = pars_sound; complete = pars_complete; local = pars_local; viable = pars_viable }; thing = None; fits = tt }
+pars_law = record {
+  law = record { sound = pars_sound; complete = pars_complete; local = pars_local; viable = pars_viable; settled = pars_settled };
+  thing = None;
+  fits = tt;
+}

@@ -9,7 +9,9 @@ pub mod KeepsStatements
 pub mod CompleteStatements
 pub mod SoundStatements
 pub mod LocalStatements
+pub mod Settling
 pub mod Settled
+pub mod SettledStatements
 pub mod Viable
 pub mod ViableStatements
 pub mod OneAttribute
@@ -36,6 +38,8 @@ pub mod LawfulRules
 pub mod LawfulItems
 pub mod WholeTrees
 pub mod OneReading
+pub mod SomeReading
+pub mod SampleBytes
 pub mod SayingRules
 pub mod Steps
 pub mod Turns

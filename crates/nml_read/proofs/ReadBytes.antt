@@ -16,7 +16,7 @@ use Rattle.nml_read.specs.Reading.{Found}
 use Rattle.nml_read.specs.ReadingItems.{item_list}
 use Rattle.nml_read.specs.declared.stop.Stop.TheVariants as stops
 use Rattle.nml_read.specs.Seen.{IsSound, Comes, Fails}
-use Rattle.nml_read.specs.Trees.{symbol, first_place, IsTree, HasNoTree, HasFloatFault, IsFaultOf}
+use Rattle.nml_read.specs.Trees.{symbol, first_place, IsTree, HasNoTree, HasFloatFault, IsReadFault}
 use Rattle.nml_read.proofs.WholeTrees.{found_tree, stuck_tree}
 
 -- ---- tokens
@@ -45,12 +45,10 @@ is_tree bytes ps ss xs h is c =
 
 -- it is the answer, or its first type `float`
 pub without_float : (bytes : List ℕ) (d : Desc) (r : Result Desc DescFault) → IsTree bytes d → MatchResult r (λ e. (e ≡ d) × (float_places e ≡ [])) (HasFloatFault d)
-    → MatchResult r (λ e. IsTree bytes e × (float_places e ≡ [])) (IsFaultOf bytes)
+    → MatchResult r (λ e. IsTree bytes e × (float_places e ≡ [])) (IsReadFault bytes)
 without_float bytes d (Ok e) t h = (subst (IsTree bytes) (sym h.0) t, h.1)
-without_float bytes d (Err (faults.Lex at)) t h = absurd h
-without_float bytes d (Err (faults.Syntax at)) t h = absurd h
 without_float bytes d (Err (faults.Float at)) t h = record { description = d; tree = t; others = h.0; first = h.1 }
-without_float bytes d (Err faults.Memory) t h = tt
+without_float bytes d (Err _) t h = absurd h
 
 -- ---- no description
 

@@ -11,18 +11,14 @@ use Rattle.nml_tree.specs.Level.{level, binary_level, unary_level, IsLeveled}
 use Rattle.nml_tree.specs.Depth.{depth}
 use Rattle.nml_read.specs.Reading.{Read, Found, Stuck, Unread, after, looked_up, behind, found_or_stuck, mark, size, operator, Beginning, Value, Opening, Fitting, Slice, Choice, Operation, beginnings, Reader, index, paren, fitted, slice, choice, operation, begun, operand, turn, climb, more, reading, IsEnd}
 use Rattle.nml_read.proofs.Symbols.{operator_is}
+use Rattle.nml_read.proofs.Settling.{IsTold, Settles}
 use Rattle.nml_read.proofs.Keeps.{Keeps, Same, Short, climb_more}
 use Rattle.nml_read.proofs.Complete.{complete}
 use Rattle.nml_read.proofs.Local.{stuck_whatever}
 
 -- ---- one reading
 
-abbrev pub IsTold : {A : Type 0} → Read A → Type 0
-IsTold (Found x rest) = Unit {0}
-IsTold (Stuck rest) = Unit {0}
-IsTold Unread = ⊥
-
-kept_told : {A : Type 0} (a b : Read A) → Keeps a b → IsTold a → b ≡ a
+pub kept_told : {A : Type 0} (a b : Read A) → Keeps a b → IsTold a → b ≡ a
 kept_told a b (Same s) h = s
 kept_told a b (Short s) h = absurd (subst IsTold s h)
 
@@ -35,31 +31,31 @@ one_reading m n k room ss h i =
 -- ---- what is left is shorter
 
 -- it is told, and fewer than m symbols stand behind what was found
-abbrev Ends : {A : Type 0} → ℕ → Read A → Type 0
+abbrev pub Ends : {A : Type 0} → ℕ → Read A → Type 0
 Ends m (Found x rest) = length rest < m
 Ends m (Stuck rest) = Unit {0}
 Ends m Unread = ⊥
 
-ends_more : {A : Type 0} (m n : ℕ) (a : Read A) → m ≤ n → Ends m a → Ends n a
+pub ends_more : {A : Type 0} (m n : ℕ) (a : Read A) → m ≤ n → Ends m a → Ends n a
 ends_more m n (Found x rest) le h = omega arith
 ends_more m n (Stuck rest) le h = tt
 ends_more m n Unread le h = h
 
-told_of : {A : Type 0} (m : ℕ) (a : Read A) → Ends m a → IsTold a
+pub told_of : {A : Type 0} (m : ℕ) (a : Read A) → Ends m a → IsTold a
 told_of m (Found x rest) h = tt
 told_of m (Stuck rest) h = tt
 told_of m Unread h = h
 
-after_ends : {A B : Type 0} (m : ℕ) (a : Read A) (next : A → List Symbol → Read B) → Ends m a → ((x : A) (rest : List Symbol) → length rest < m → Ends m (next x rest)) → Ends m (after a next)
+pub after_ends : {A B : Type 0} (m : ℕ) (a : Read A) (next : A → List Symbol → Read B) → Ends m a → ((x : A) (rest : List Symbol) → length rest < m → Ends m (next x rest)) → Ends m (after a next)
 after_ends m (Found x rest) next h k = k x rest h
 after_ends m (Stuck rest) next h k = tt
 after_ends m Unread next h k = h
 
-if_ends : {A : Type 0} (m : ℕ) (b : Bool) (here : List Symbol) (a : Read A) → Ends m a → Ends m (if b then Stuck here else a)
+pub if_ends : {A : Type 0} (m : ℕ) (b : Bool) (here : List Symbol) (a : Read A) → Ends m a → Ends m (if b then Stuck here else a)
 if_ends m true here a h = tt
 if_ends m false here a h = h
 
-mark_ends : (m : ℕ) (text : List ℕ) (ss : List Symbol) → length ss < m → Ends m (mark text ss)
+pub mark_ends : (m : ℕ) (text : List ℕ) (ss : List Symbol) → length ss < m → Ends m (mark text ss)
 mark_ends m text [] lt = tt
 mark_ends m text (Symbol.Fixed at other ∷ ss) lt = by (text_eq other text)
   where
@@ -139,7 +135,7 @@ turn_ends inner next k room left ss right goes (Some (op, at, rest)) e =
 
 -- ---- expressions
 mutual
-  climb_ends : (n k room : ℕ) (ss : List Symbol) → length ss < n → Ends (length ss) (climb n k room ss)
+  pub climb_ends : (n k room : ℕ) (ss : List Symbol) → length ss < n → Ends (length ss) (climb n k room ss)
   climb_ends zero k room ss lt = absurd (omega arith)
   climb_ends (suc n) k room ss lt =
       after_ends (length ss) (operand (climb n) room ss) (λ x rest. more n k room x rest)
@@ -156,6 +152,14 @@ mutual
 
 pub reading_told : (k room : ℕ) (ss : List Symbol) → IsTold (reading k room ss)
 reading_told k room ss = told_of (length ss) (climb (suc (length ss)) k room ss) (climb_ends (suc (length ss)) k room ss (omega arith))
+
+-- so it settles, as more calls change nothing
+pub climb_settles : (k room : ℕ) (ss : List Symbol) → Settles (length ss) (λ n. climb n k room ss)
+climb_settles k room ss = record {
+  comes = reading k room ss;
+  told = reading_told k room ss;
+  is = λ n lt. kept_told (reading k room ss) (climb n k room ss) (climb_more (suc (length ss)) n k room ss (omega (arith, lt))) (reading_told k room ss);
+}
 
 -- so the reading is what any number of calls tells
 pub reading_is : (n k room : ℕ) (ss : List Symbol) → IsTold (climb n k room ss) → reading k room ss ≡ climb n k room ss

@@ -1,5 +1,5 @@
 -- Reading all symbols finds the description that they spell, and where it is stuck, those before begin one and with the next begin none.
-use Rattle.std.proofs.Common.{◌≡◌, ℕ, zero, suc, ◌+◌, ◌≤◌, List, [], ◌∷◌, ◌++◌, refl, ap, sym, ◌∙◌, subst, arith, append_assoc, append-nil, ⊎_elim}
+use Rattle.std.proofs.Common.{◌≡◌, ℕ, zero, suc, ◌+◌, ◌<◌, ◌≤◌, List, [], ◌∷◌, ◌++◌, length, length-append, Some, refl, ap, sym, ◌∙◌, subst, arith, append_assoc, append-nil, ⊎_elim}
 use Rattle.std.specs.Prelude.{flat_map, All}
 use Rattle.std.proofs.lemmas.List.{append_cancel_right}
 use Rattle.std.proofs.lemmas.List.Elements.{All-nil, All-cons, All-head, All-tail}
@@ -18,6 +18,8 @@ use Rattle.nml_read.proofs.Sound.{found_is, after_found}
 use Rattle.nml_read.proofs.Local.{IsLocal, rest_of, with_rest, unread_locally, found_empty, found_local, after_local}
 use Rattle.nml_read.proofs.Viable.{after_stuck}
 use Rattle.nml_read.proofs.OneItem.{next}
+use Rattle.nml_read.proofs.ItemFront.{Kind, kind, kind_of, front}
+use Rattle.nml_read.proofs.Settling.{Settles, settles_at_once, settles_later, settles_one_more, settles_behind}
 use Rattle.nml_read.proofs.Lawful.{Eventually}
 use Rattle.nml_read.proofs.Combining.{found_is_not_stuck}
 use Rattle.nml_read.proofs.CombiningMarks.{agree_local}
@@ -140,6 +142,36 @@ items_viable (suc n) (s ∷ ss) rest e =
     (λ i. found_is_not_stuck (h.0 ∷ i.0) i.1 rest i.3)
     (after_stuck (item_list n h.1) (λ xs t. Found (h.0 ∷ xs) t) rest h.3))
     (after_stuck (item n (s ∷ ss)) (λ x r. after (item_list n r) (λ xs t. Found (x ∷ xs) t)) rest e)
+
+-- an item has a symbol
+some_symbol : (u : List Symbol) (k : Kind) → kind (u ++ []) ≡ Some k → 0 < length u
+some_symbol [] k e = absurd (cc)
+some_symbol (s ∷ u) k e = omega arith
+
+-- so fewer are left behind it
+item_shorter : (n : ℕ) (ss : List Symbol) (x : Item) (r : List Symbol) → item n ss ≡ Found x r → length r < length ss
+item_shorter n ss x r e =
+    omega (arith, ap length (item_law.law.sound n ss x r e).whole, length-append (item_spelling x) r, some_symbol (item_spelling x) (kind_of x) (front x []).0)
+
+-- the reading of all symbols settles
+items_settled : (k : ℕ) (ss : List Symbol) → length ss ≤ k → Settles (suc (length ss)) (λ n. item_list n ss)
+items_settled k [] le = record { comes = Found [] []; told = tt; is = nothing }
+  where
+    nothing : (n : ℕ) → 1 < n → item_list n [] ≡ Found [] []
+    nothing zero lt = absurd (omega arith)
+    nothing (suc n) lt = refl
+items_settled zero (s ∷ ss) le = absurd (omega arith)
+items_settled (suc k) (s ∷ ss) le =
+    settles_one_more (length (s ∷ ss)) (λ n. item_list n (s ∷ ss))
+    (settles_behind (length (s ∷ ss)) (λ n. item n (s ∷ ss)) (λ n x r. after (item_list n r) (λ xs t. Found (x ∷ xs) t)) (item_law.law.settled (s ∷ ss))
+    (λ x r e.
+    let less = item_shorter (suc (length (s ∷ ss))) (s ∷ ss) x r e in
+    settles_later (suc (length r)) (length (s ∷ ss)) (λ n. after (item_list n r) (λ xs t. Found (x ∷ xs) t)) (omega (arith, less))
+    (settles_behind (suc (length r)) (λ n. item_list n r) (λ n xs t. Found (x ∷ xs) t) (items_settled k r (omega (arith, le, less)))
+    (λ xs t f. settles_at_once (suc (length r)) (λ n. Found (x ∷ xs) t) (Found (x ∷ xs) t) tt (λ n. refl)))))
+
+pub items_settle : (ss : List Symbol) → Settles (suc (length ss)) (λ n. item_list n ss)
+items_settle ss = items_settled (length ss) ss (omega arith)
 
 -- ---- whole descriptions
 

@@ -6,6 +6,7 @@ pub mod Trees
 pub mod Unplaced
 pub mod Sample
 pub mod SampleItems
+pub mod SampleBytes
 pub mod Seen
 pub mod SeenWords
 pub mod Forms

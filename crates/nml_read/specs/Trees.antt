@@ -83,10 +83,8 @@ IsFirst places (Some at) = (others : List ℕ) × (places ≡ at ∷ others)
 
 -- the fault is that of a type `float`, the first of the description
 abbrev pub HasFloatFault : Desc → DescFault → Type 0
-HasFloatFault d (faults.Lex at) = ⊥
-HasFloatFault d (faults.Syntax at) = ⊥
 HasFloatFault d (faults.Float at) = IsFirst (float_places d) (Some at)
-HasFloatFault d faults.Memory = ⊥
+HasFloatFault d _ = ⊥
 
 -- the tokens are those of a description whose first type `float` stands at this place
 pub record IsFloat (bytes : List ℕ) (at : ℕ) : Type 0 where
@@ -95,9 +93,10 @@ pub record IsFloat (bytes : List ℕ) (at : ℕ) : Type 0 where
   pub others : List ℕ
   pub first : float_places description ≡ at ∷ others
 
--- a fault of the bytes; want of memory is free
-abbrev pub IsFaultOf : List ℕ → DescFault → Type 0
-IsFaultOf bytes (faults.Lex at) = IsStuckAt bytes at
-IsFaultOf bytes (faults.Syntax at) = HasNoTree bytes at
-IsFaultOf bytes (faults.Float at) = IsFloat bytes at
-IsFaultOf bytes faults.Memory = Unit {0}
+-- a fault of tokens, of syntax or of a type `float` that the bytes have; want of memory is free, and no other fault is one
+abbrev pub IsReadFault : List ℕ → DescFault → Type 0
+IsReadFault bytes (faults.Lex at) = IsStuckAt bytes at
+IsReadFault bytes (faults.Syntax at) = HasNoTree bytes at
+IsReadFault bytes (faults.Float at) = IsFloat bytes at
+IsReadFault bytes faults.Memory = Unit {0}
+IsReadFault bytes _ = ⊥

@@ -4,7 +4,7 @@ ghost use Rattle.nml_tree.specs.Floats.{float_places};
 ghost use Rattle.nml_read.specs.Reading.{Found};
 ghost use Rattle.nml_read.specs.ReadingItems.{item_list};
 ghost use Rattle.nml_read.specs.Seen.{seen, Says};
-ghost use Rattle.nml_read.specs.Trees.{first_place, place, HasFloatFault, IsTree, IsFaultOf};
+ghost use Rattle.nml_read.specs.Trees.{first_place, place, HasFloatFault, IsTree, IsReadFault};
 
 use crate::float::first_float;
 use crate::item::item;
@@ -23,7 +23,7 @@ use std::alloc::Global;
 /// this project's own; docs/LANGUAGES.md states it.
 pub fn read(alloc: Global, bytes: &[u8]) -> Result<Desc, DescFault>
     requires { length bytes.now ≤ 4194304 }
-    ensures { MatchResult result (λ d. IsTree bytes.now d × (float_places d ≡ [])) (IsFaultOf bytes.now) }
+    ensures { MatchResult result (λ d. IsTree bytes.now d × (float_places d ≡ [])) (IsReadFault bytes.now) }
 {
     let tokens = lex(alloc, bytes)?;
     let signs = signs(alloc, &tokens.list)?;

@@ -9,8 +9,6 @@ mod float;
 mod front;
 mod item;
 mod law;
-#[cfg(test)]
-mod machines;
 mod operator;
 mod parameters;
 mod rules;
@@ -18,9 +16,7 @@ mod sign;
 mod start;
 mod statement;
 mod stop;
-#[cfg(test)]
-mod tests;
 mod types;
 
 pub use description::read;
-pub use law::{one_block, one_expression, one_reading, one_tree};
+pub use law::{one_block, one_expression, one_reading, one_tree, some_reading};

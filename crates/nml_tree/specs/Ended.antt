@@ -1,5 +1,5 @@
 -- What a speller has written so far, for private contracts.
-use Rattle.std.specs.Prelude.{ℕ, List, [], ◌∷◌, ◌++◌}
+use Rattle.std.specs.Prelude.{ℕ, Bool, true, false, List, [], ◌∷◌, ◌++◌}
 use Rattle.nml_tree.specs.Symbol.{Symbol}
 use Rattle.nml_tree.specs.Formula.{Formula, Truth, Fitted, Unary, Binary}
 use Rattle.nml_tree.specs.Spell.{truth_word, fit_word, prefix_mark, binary_mark}
@@ -17,3 +17,9 @@ outer_word (Fitted f at p n c x q) = fit_word f
 outer_word (Unary op at x) = prefix_mark op
 outer_word (Binary op x at y) = binary_mark op
 outer_word _ = []
+
+-- the formula is an operator with its operands
+abbrev pub is_operator : Formula → Bool
+is_operator (Unary op at x) = true
+is_operator (Binary op x at y) = true
+is_operator _ = false

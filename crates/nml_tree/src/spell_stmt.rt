@@ -7,20 +7,10 @@ ghost use Rattle.nml_tree.specs.Spell.{name_spelling, formula_spelling, index_sp
 ghost use Rattle.nml_tree.specs.Ended.{ended};
 
 use crate::expression::Expr;
-use crate::spell_expr::push_expr;
+use crate::spell_expr::push_between;
 use crate::spell_leaf::{push_name, push_word};
 use crate::statement::{Place, Stmt};
 use nk_base::{Memory, Text};
-
-/// Appends the expression with words before it and behind it.
-#[tactic(auto, using(crate::proofs::EndedLaws::ended_laws))]
-fn push_between(text: &mut Text, front: &[u8], e: &Expr, behind: &[u8]) -> Result<(), Memory>
-    ensures { OnOk result (text.new ≡ text.old ++ (front.now ++ 32 ∷ ended (formula_spelling (formula e.now)) ++ (behind.now ++ 32 ∷ []))) }
-{
-    push_word(text, front)?;
-    push_expr(text, e)?;
-    push_word(text, behind)
-}
 
 /// Appends the place.
 #[tactic(auto, using(crate::proofs::EndedLaws::ended_laws))]

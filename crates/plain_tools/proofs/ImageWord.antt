@@ -15,13 +15,6 @@ use Rattle.plain_tree.specs.IsPlain.{is_image, bits_in, image_width}
 use Rattle.plain_tools.proofs.SyntaxTokens.{both}
 use Rattle.plain_tools.proofs.MatchSteps.{Turn, opens}
 
--- a power of two below 2^127, as the code computes it
-pub power : (k : ℕ) → k ≤ 126 → to_z w128 (1 * 2 ^ k % 2 ^ 128) ≡ pos (2 ^ k)
-power k h =
-    let small : 2 ^ k < 2 ^ 127 = pow_below k 127 (omega arith) in
-    let same : 1 * 2 ^ k % 2 ^ 128 ≡ 2 ^ k = one_shl k 128 (omega arith) in
-    omega (arith, ints)
-
 -- the number that bits behind bits write
 number_append : (v : ℕ) (xs ys : List Bool) → number_behind v (xs ++ ys) ≡ number_behind (number_behind v xs) ys
 number_append v [] ys = refl

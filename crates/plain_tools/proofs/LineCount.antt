@@ -1,52 +1,43 @@
 -- How many lines have a token.
-use Rattle.std.proofs.Common.{◌≡◌, ℕ, ◌+◌, ◌<◌, ◌≤◌, true, false, not, cond, List, [], ◌∷◌, length, ◌∙◌, sym, ap, subst, arith, Bor, Option, Some}
-use Rattle.std.specs.Prelude.{◌==◌, nat_lt}
+use Rattle.std.proofs.Common.{◌≡◌, ℕ, ◌+◌, ◌<◌, ◌≤◌, true, false, not, cond, List, [], ◌∷◌, length, ◌∙◌, sym, ap, subst, arith, Bor, Option, Some, length-append}
+use Rattle.std.specs.Prelude.{◌==◌, ◌&&◌, Bool, nat_lt}
 use Rattle.std.specs.Char.{is_ascii_digit}
-use Rattle.std.proofs.lemmas.Bool.{lt-ltb}
+use Rattle.std.specs.List.{prefix_len}
+use Rattle.std.proofs.lemmas.Bool.{lt-ltb, false≢true}
 use Rattle.std.proofs.lemmas.Bool.Decides.{nat_tests}
 use Rattle.nk_base.specs.Byte.{is_name_start, is_blank}
-use Rattle.plain_tree.specs.LineToken.{LineToken, Front, Nothing, Letters, Digits, Scan, whole, with_letter, with_digit, with_minus, with_byte, scanned, line_tokens}
+use Rattle.plain_tree.specs.LineToken.{LineToken, Begun, begun, tokens_behind, line_tokens}
 use Rattle.plain_tools.specs.Assembly.{instruction_lines}
 use Rattle.plain_tools.specs.FirstLine.{IsFirstLine}
 use Rattle.plain_tools.specs.Fronts.{begins_with, IsFront}
 use Rattle.plain_tools.specs.PlainText.{lines}
-use Rattle.plain_tools.proofs.LineTokens.{blanks, both, second}
+use Rattle.plain_tools.proofs.LineTokens.{blanks}
 use Rattle.plain_tools.proofs.Lines.{lines_left, size_left, first_of_lines, size_falls}
 
--- a byte that is no blank gives a token
-Has : Scan → Type 0
-Has s = 0 < length (whole s.front s.tokens)
+-- a byte that is no blank begins a token
+Has : Begun → Type 0
+Has b = 0 < length b.token
 
-letter_has : (c : ℕ) (f : Front) (ts : List LineToken) → Has (with_letter c f ts)
-unfolding Has
-letter_has c Nothing ts = omega arith
-letter_has c (Letters w) ts = omega arith
-letter_has c (Digits w) ts = omega arith
+either : (b : Bool) (x y : Begun) → Has x → Has y → Has (cond b x y)
+either true x y p q = p
+either false x y p q = q
 
-digit_has : (c : ℕ) (f : Front) (ts : List LineToken) → Has (with_digit c f ts)
-unfolding Has
-digit_has c Nothing ts = omega arith
-digit_has c (Letters w) ts = omega arith
-digit_has c (Digits w) ts = omega arith
+no_blank : (b : Bool) (x y : Begun) → b ≡ false → Has y → Has (cond b x y)
+no_blank true x y e q = absurd (false≢true (sym e))
+no_blank false x y e q = q
 
-minus_has : (f : Front) (ts : List LineToken) → Has (with_minus f ts)
+byte_has : (c : ℕ) (text : List ℕ) → is_blank c ≡ false → Has (begun c text)
 unfolding Has
-minus_has Nothing ts = omega arith
-minus_has (Letters w) ts = omega arith
-minus_has (Digits w) ts = omega arith
-
-byte_has : (c : ℕ) (s : Scan) → is_blank c ≡ false → Has (with_byte c s)
-unfolding Has
-byte_has c s h =
-    both Has (is_name_start c) _ _ (letter_has c s.front s.tokens)
-    (both Has (is_ascii_digit c) _ _ (digit_has c s.front s.tokens)
-    (second Has (is_blank c) _ _ h
-    (both Has (c == 45) _ _ (minus_has s.front s.tokens) (omega arith))))
+byte_has c text h =
+    either (is_name_start c) _ _ (omega arith)
+    (either (is_ascii_digit c) _ _ (omega arith)
+    (either ((c == 45) && nat_lt 0 (prefix_len is_ascii_digit text)) _ _ (omega arith)
+    (no_blank (is_blank c) _ _ h (omega arith))))
 
 some_token : (from : List ℕ) → 0 < length from → begins_with is_blank from ≡ false → 0 < length (line_tokens from)
 unfolding Has
 some_token [] some h = absurd (omega arith)
-some_token (c ∷ cs) some h = byte_has c (scanned cs) h
+some_token (c ∷ cs) some h = omega (arith, byte_has c cs h, length-append (begun c cs).token (tokens_behind (begun c cs).more cs))
 
 token_behind : (line front from : List ℕ) → IsFront is_blank line front from → 0 < length from → 0 < length (line_tokens line)
 token_behind line front from f some = subst (λ ts. 0 < length ts) (sym (blanks line front from f)) (some_token from some f.stops)

@@ -1,15 +1,15 @@
 -- The tokens of a line, read from its left end.
 use Rattle.std.proofs.Common.{inl, inr, ◌≡◌, ℕ, zero, suc, ◌^◌, ◌+◌, ◌<◌, ◌≤◌, Bool, true, false, ◌&&◌, ◌||◌, cond, List, [], ◌∷◌, ◌++◌, length, take, drop, ◌∙◌, sym, refl, ap, subst, arith, ℤ, pos, append_assoc, length-append}
-use Rattle.std.specs.Prelude.{◌==◌, neg_ℤ}
+use Rattle.std.specs.Prelude.{◌==◌, neg_ℤ, nat_lt, take_while}
 use Rattle.std.specs.Char.{digit_value, is_ascii_digit}
 use Rattle.std.specs.List.{list_all, prefix_len}
 use Rattle.std.specs.Str.Parse.{digits_value, AllDigits}
-use Rattle.std.proofs.lemmas.Bool.{cases_Bool, leb-true, and_parts, and_from, or_cases, eqb-true, false≢true}
+use Rattle.std.proofs.lemmas.Bool.{cases_Bool, leb-true, lt-ltb, and_parts, and_from, or_cases, eqb-true, false≢true}
 use Rattle.std.proofs.lemmas.Bool.Decides.{nat_tests}
 use Rattle.std.proofs.lemmas.Int.Digits.{digits_value-lt}
 use Rattle.std.proofs.Math.Nat.{pow-le-pow_right}
 use Rattle.nk_base.specs.Byte.{is_name_start, is_name_byte, is_blank}
-use Rattle.plain_tree.specs.LineToken.{LineToken, Word, Number, Mark, Front, Nothing, Letters, Digits, Scan, whole, with_letter, with_digit, with_minus, with_byte, scanned, line_tokens}
+use Rattle.plain_tree.specs.LineToken.{LineToken, Word, Number, begun, number_in_front, tokens_behind, line_tokens}
 use Rattle.plain_tools.specs.PlainText.{is_line_byte, begins_with_digit, is_signed_well, has_short_runs, is_plain_line}
 use Rattle.plain_tools.specs.Fronts.{begins_with, IsFront, IsNumberAt, IsNext}
 
@@ -42,125 +42,82 @@ pub some_pass : (test : ℕ → Bool) (bytes front rest : List ℕ) → begins_w
 some_pass test bytes [] rest b h = absurd (false≢true (sym h.stops ∙ ap (begins_with test) (sym h.joined) ∙ b))
 some_pass test bytes (x ∷ front) rest b h = omega arith
 
--- kinds of bytes
+-- the longest front, as it is counted and taken
+counted : (test : ℕ → Bool) (front rest : List ℕ) → list_all test front ≡ true → begins_with test rest ≡ false → prefix_len test (front ++ rest) ≡ length front
+counted test [] [] all stops = refl
+counted test [] (c ∷ cs) all stops = ap (λ b. cond b (1 + prefix_len test cs) 0) stops
+counted test (c ∷ cs) rest all stops =
+    ap (λ b. cond b (1 + prefix_len test (cs ++ rest)) 0) (and_parts _ _ all).0
+    ∙ omega (arith, counted test cs rest (and_parts _ _ all).1 stops)
+
+front_of : (front rest : List ℕ) → take (length front) (front ++ rest) ≡ front
+front_of [] rest = refl
+front_of (c ∷ cs) rest = ap (λ l. c ∷ l) (front_of cs rest)
+
+taken : (test : ℕ → Bool) (front rest : List ℕ) → list_all test front ≡ true → begins_with test rest ≡ false → take_while test (front ++ rest) ≡ front
+taken test front rest all stops = ap (λ n. take n (front ++ rest)) (counted test front rest all stops) ∙ front_of front rest
+
+-- what is of the token before gives no token
+skipped : (front rest : List ℕ) → tokens_behind (length front) (front ++ rest) ≡ line_tokens rest
+skipped [] [] = refl
+skipped [] (c ∷ cs) = refl
+skipped (c ∷ cs) rest = skipped cs rest
+
+-- what a byte begins, by its kind
 digit_is_no_letter : (c : ℕ) → is_ascii_digit c ≡ true → is_name_start c ≡ false
 digit_is_no_letter c d = grind (arith, nat_tests)
 
-at_letter : (c : ℕ) (s : Scan) → is_name_start c ≡ true → with_byte c s ≡ with_letter c s.front s.tokens
-at_letter c s p = rw p refl
+at_letter : (c : ℕ) (text : List ℕ) → is_name_start c ≡ true
+    → begun c text ≡ record { token = Word (take_while is_name_start (c ∷ text)) ∷ []; more = prefix_len is_name_start text }
+at_letter c text p = rw p refl
 
-at_digit : (c : ℕ) (s : Scan) → is_ascii_digit c ≡ true → with_byte c s ≡ with_digit c s.front s.tokens
-at_digit c s p = rw (digit_is_no_letter c p, p) refl
+at_digit : (c : ℕ) (text : List ℕ) → is_ascii_digit c ≡ true
+    → begun c text ≡ record { token = Number (pos (number_in_front (c ∷ text))) ∷ []; more = prefix_len is_ascii_digit text }
+at_digit c text p = rw (digit_is_no_letter c p, p) refl
 
--- what a front is not
-NoLetters : Front → Type 0
-NoLetters Nothing = Unit {0}
-NoLetters (Letters w) = ⊥
-NoLetters (Digits w) = Unit {0}
+at_minus : (text : List ℕ) → nat_lt 0 (prefix_len is_ascii_digit text) ≡ true
+    → begun 45 text ≡ record { token = Number (neg_ℤ (pos (number_in_front text))) ∷ []; more = prefix_len is_ascii_digit text }
+at_minus text p = rw p refl
 
-NoDigits : Front → Type 0
-NoDigits Nothing = Unit {0}
-NoDigits (Letters w) = Unit {0}
-NoDigits (Digits w) = ⊥
-
-letter_first : (c : ℕ) (f : Front) (ts : List LineToken) → NoLetters f → with_letter c f ts ≡ record { front = Letters (c ∷ []); tokens = whole f ts }
-unfolding NoLetters
-letter_first c Nothing ts h = refl
-letter_first c (Letters w) ts h = absurd h
-letter_first c (Digits w) ts h = refl
-
-digit_first : (c : ℕ) (f : Front) (ts : List LineToken) → NoDigits f → with_digit c f ts ≡ record { front = Digits (c ∷ []); tokens = whole f ts }
-unfolding NoDigits
-digit_first c Nothing ts h = refl
-digit_first c (Letters w) ts h = refl
-digit_first c (Digits w) ts h = absurd h
-
-pub both : (P : Scan → Type 0) (b : Bool) (x y : Scan) → P x → P y → P (cond b x y)
-both P true x y p q = p
-both P false x y p q = q
-
-pub second : (P : Scan → Type 0) (b : Bool) (x y : Scan) → b ≡ false → P y → P (cond b x y)
-second P true x y e q = absurd (false≢true (sym e))
-second P false x y e q = q
-
-digit_no_letters : (c : ℕ) (f : Front) (ts : List LineToken) → NoLetters (with_digit c f ts).front
-unfolding NoLetters
-digit_no_letters c Nothing ts = tt
-digit_no_letters c (Letters w) ts = tt
-digit_no_letters c (Digits w) ts = tt
-
-letter_no_digits : (c : ℕ) (f : Front) (ts : List LineToken) → NoDigits (with_letter c f ts).front
-unfolding NoDigits
-letter_no_digits c Nothing ts = tt
-letter_no_digits c (Letters w) ts = tt
-letter_no_digits c (Digits w) ts = tt
-
-minus_ends : (f : Front) (ts : List LineToken) → (with_minus f ts).front ≡ Nothing
-minus_ends Nothing ts = refl
-minus_ends (Letters w) ts = refl
-minus_ends (Digits w) ts = refl
-
--- a byte that is no letter and no digit
-mark_ends : (c : ℕ) (s : Scan) → (P : Front → Type 0) → P Nothing
-    → P (cond (is_blank c) (record { front = Nothing; tokens = whole s.front s.tokens }) (cond (c == 45) (with_minus s.front s.tokens) (record { front = Nothing; tokens = Mark c ∷ whole s.front s.tokens }))).front
-mark_ends c s P h =
-    both (λ s. P s.front) (is_blank c) _ _ h (both (λ s. P s.front) (c == 45) _ _ (subst P (sym (minus_ends s.front s.tokens)) h) h)
-
-no_letter_more : (c : ℕ) (s : Scan) → is_name_start c ≡ false → NoLetters (with_byte c s).front
-unfolding NoLetters
-no_letter_more c s e =
-    second (λ s. NoLetters s.front) (is_name_start c) _ _ e
-    (both (λ s. NoLetters s.front) (is_ascii_digit c) _ _ (digit_no_letters c s.front s.tokens) (mark_ends c s NoLetters tt))
-
-no_digit_more : (c : ℕ) (s : Scan) → is_ascii_digit c ≡ false → NoDigits (with_byte c s).front
-unfolding NoDigits
-no_digit_more c s e =
-    both (λ s. NoDigits s.front) (is_name_start c) _ _ (letter_no_digits c s.front s.tokens)
-    (second (λ s. NoDigits s.front) (is_ascii_digit c) _ _ e (mark_ends c s NoDigits tt))
-
-no_letters : (rest : List ℕ) → begins_with is_name_start rest ≡ false → NoLetters (scanned rest).front
-unfolding NoLetters
-no_letters [] e = tt
-no_letters (c ∷ cs) e = no_letter_more c (scanned cs) e
-
-no_digits : (rest : List ℕ) → begins_with is_ascii_digit rest ≡ false → NoDigits (scanned rest).front
-unfolding NoDigits
-no_digits [] e = tt
-no_digits (c ∷ cs) e = no_digit_more c (scanned cs) e
-
--- a run grows to the left
-scan_letters : (c : ℕ) (cs rest : List ℕ) → list_all is_name_start (c ∷ cs) ≡ true → begins_with is_name_start rest ≡ false
-    → scanned (c ∷ (cs ++ rest)) ≡ record { front = Letters (c ∷ cs); tokens = line_tokens rest }
-scan_letters c [] rest all stops =
-    at_letter c (scanned rest) (and_parts _ _ all).0 ∙ letter_first c (scanned rest).front (scanned rest).tokens (no_letters rest stops)
-scan_letters c (d ∷ cs) rest all stops =
-    at_letter c (scanned (d ∷ (cs ++ rest))) (and_parts _ _ all).0
-    ∙ ap (λ s. with_letter c s.front s.tokens) (scan_letters d cs rest (and_parts _ _ all).1 stops)
-
-scan_digits : (c : ℕ) (cs rest : List ℕ) → list_all is_ascii_digit (c ∷ cs) ≡ true → begins_with is_ascii_digit rest ≡ false
-    → scanned (c ∷ (cs ++ rest)) ≡ record { front = Digits (c ∷ cs); tokens = line_tokens rest }
-scan_digits c [] rest all stops =
-    at_digit c (scanned rest) (and_parts _ _ all).0 ∙ digit_first c (scanned rest).front (scanned rest).tokens (no_digits rest stops)
-scan_digits c (d ∷ cs) rest all stops =
-    at_digit c (scanned (d ∷ (cs ++ rest))) (and_parts _ _ all).0
-    ∙ ap (λ s. with_digit c s.front s.tokens) (scan_digits d cs rest (and_parts _ _ all).1 stops)
+-- what a line gives where the front of what stands behind its first byte is of that byte's token
+gives : (c : ℕ) (front rest : List ℕ) (token : LineToken) (more : ℕ) → begun c (front ++ rest) ≡ record { token = token ∷ []; more = more } → more ≡ length front
+    → line_tokens (c ∷ (front ++ rest)) ≡ token ∷ line_tokens rest
+gives c front rest token more is n =
+    ap (λ b. b.token ++ tokens_behind b.more (front ++ rest)) is
+    ∙ ap (λ k. token ∷ tokens_behind k (front ++ rest)) n ∙ ap (λ ts. token ∷ ts) (skipped front rest)
 
 -- the first token of a line
+letters_first : (c : ℕ) (cs rest : List ℕ) → list_all is_name_start (c ∷ cs) ≡ true → begins_with is_name_start rest ≡ false
+    → line_tokens (c ∷ (cs ++ rest)) ≡ Word (c ∷ cs) ∷ line_tokens rest
+letters_first c cs rest all stops =
+    let is = at_letter c (cs ++ rest) (and_parts _ _ all).0 ∙ ap (λ w. record { token = Word w ∷ []; more = prefix_len is_name_start (cs ++ rest) }) (taken is_name_start (c ∷ cs) rest all stops) in
+    gives c cs rest (Word (c ∷ cs)) _ is (counted is_name_start cs rest (and_parts _ _ all).1 stops)
+
+digits_first : (c : ℕ) (cs rest : List ℕ) → list_all is_ascii_digit (c ∷ cs) ≡ true → begins_with is_ascii_digit rest ≡ false
+    → line_tokens (c ∷ (cs ++ rest)) ≡ Number (pos (digits_value 10 (c ∷ cs))) ∷ line_tokens rest
+digits_first c cs rest all stops =
+    let is = at_digit c (cs ++ rest) (and_parts _ _ all).0 ∙ ap (λ w. record { token = Number (pos (digits_value 10 w)) ∷ []; more = prefix_len is_ascii_digit (cs ++ rest) }) (taken is_ascii_digit (c ∷ cs) rest all stops) in
+    gives c cs rest (Number (pos (digits_value 10 (c ∷ cs)))) _ is (counted is_ascii_digit cs rest (and_parts _ _ all).1 stops)
+
+sign_first : (front rest : List ℕ) → list_all is_ascii_digit front ≡ true → begins_with is_ascii_digit rest ≡ false → 0 < length front
+    → line_tokens (45 ∷ (front ++ rest)) ≡ Number (neg_ℤ (pos (digits_value 10 front))) ∷ line_tokens rest
+sign_first front rest all stops some =
+    let n = counted is_ascii_digit front rest all stops in
+    let is = at_minus (front ++ rest) (ap (nat_lt 0) n ∙ lt-ltb 0 (length front) some) ∙ ap (λ w. record { token = Number (neg_ℤ (pos (digits_value 10 w))) ∷ []; more = prefix_len is_ascii_digit (front ++ rest) }) (taken is_ascii_digit front rest all stops) in
+    gives 45 front rest (Number (neg_ℤ (pos (digits_value 10 front)))) _ is n
+
 pub word : (bytes front rest : List ℕ) → IsFront is_name_start bytes front rest → 0 < length front → line_tokens bytes ≡ Word front ∷ line_tokens rest
 word bytes [] rest h some = absurd (omega arith)
-word bytes (c ∷ cs) rest h some = ap line_tokens h.joined ∙ ap (λ s. whole s.front s.tokens) (scan_letters c cs rest h.passes h.stops)
+word bytes (c ∷ cs) rest h some = ap line_tokens h.joined ∙ letters_first c cs rest h.passes h.stops
 
 pub number : (bytes front rest : List ℕ) → IsFront is_ascii_digit bytes front rest → 0 < length front
     → line_tokens bytes ≡ Number (pos (digits_value 10 front)) ∷ line_tokens rest
 number bytes [] rest h some = absurd (omega arith)
-number bytes (c ∷ cs) rest h some = ap line_tokens h.joined ∙ ap (λ s. whole s.front s.tokens) (scan_digits c cs rest h.passes h.stops)
+number bytes (c ∷ cs) rest h some = ap line_tokens h.joined ∙ digits_first c cs rest h.passes h.stops
 
 pub minus : (bytes front rest : List ℕ) → IsFront is_ascii_digit bytes front rest → 0 < length front
     → line_tokens (45 ∷ bytes) ≡ Number (neg_ℤ (pos (digits_value 10 front))) ∷ line_tokens rest
-minus bytes [] rest h some = absurd (omega arith)
-minus bytes (c ∷ cs) rest h some =
-    ap (λ b. line_tokens (45 ∷ b)) h.joined
-    ∙ ap (λ s. whole (with_minus s.front s.tokens).front (with_minus s.front s.tokens).tokens) (scan_digits c cs rest h.passes h.stops)
+minus bytes front rest h some = ap (λ b. line_tokens (45 ∷ b)) h.joined ∙ sign_first front rest h.passes h.stops some
 
 -- blanks give no token
 blank_one : (c : ℕ) (cs : List ℕ) → is_blank c ≡ true → line_tokens (c ∷ cs) ≡ line_tokens cs

@@ -13,11 +13,10 @@ use Rattle.nk_base.specs.Text.{text_eq}
 use Rattle.plain_tree.specs.Attribute.{filled, directive}
 use Rattle.nml_tree.specs.Joined.{each_spaced, spaced}
 use Rattle.plain_tree.specs.IsPlain.{is_part, is_run_of_letters}
-use Rattle.plain_tree.specs.LineToken.{LineToken, Word, Number, Front, Nothing, Letters, Digits, Scan, whole, with_letter, with_digit, with_byte, scanned, line_tokens}
+use Rattle.plain_tree.specs.LineToken.{LineToken, Word, Number, line_tokens}
+use Rattle.plain_tools.specs.Fronts.{begins_with, IsFront}
+use Rattle.plain_tools.proofs.LineTokens.{word, number, minus}
 use Rattle.plain_tools.specs.Template.{template}
-
-abbrev scan : Front → List LineToken → Scan
-scan f ts = record { front = f; tokens = ts }
 
 letter_starts : (c : ℕ) → is_ascii_alphabetic c ≡ true → is_name_start c ≡ true
 letter_starts c h = ap (λ b. b || (c == 95)) h
@@ -25,55 +24,53 @@ letter_starts c h = ap (λ b. b || (c == 95)) h
 digit_is : (c : ℕ) → digit_value c < 10 → is_ascii_digit c ≡ true
 digit_is c h = let r = digit_from_value c h in grind (arith, nat_tests)
 
-digit_no_start : (c : ℕ) → digit_value c < 10 → is_name_start c ≡ false
-digit_no_start c h = let r = digit_from_value c h in grind (arith, nat_tests)
-
-with_letter_is : (c : ℕ) (s : Scan) → is_ascii_alphabetic c ≡ true → with_byte c s ≡ with_letter c s.front s.tokens
-with_letter_is c s h = rw (letter_starts c h)
-
-with_digit_is : (c : ℕ) (s : Scan) → digit_value c < 10 → with_byte c s ≡ with_digit c s.front s.tokens
-with_digit_is c s h = rw (digit_no_start c h, digit_is c h)
-
 pub both : (a b : Bool) → (a && b) ≡ true → (a ≡ true) × (b ≡ true)
 both true b h = (refl, h)
 both false b h = absurd (true≢false (sym h))
 
--- a run of letters in front of what was read
-scanned_letters : (c : ℕ) (w : List ℕ) (rest : List ℕ) (ts : List LineToken) → list_all is_ascii_alphabetic (c ∷ w) ≡ true
-    → scanned rest ≡ scan Nothing ts → scanned ((c ∷ w) ++ rest) ≡ scan (Letters (c ∷ w)) ts
-scanned_letters c [] rest ts h e = ap (with_byte c) e ∙ with_letter_is c (scan Nothing ts) (both _ _ h).0
-scanned_letters c (d ∷ w) rest ts h e =
-    ap (with_byte c) (scanned_letters d w rest ts (both _ _ h).1 e) ∙ with_letter_is c (scan (Letters (d ∷ w)) ts) (both _ _ h).0
+and_true : (a b : Bool) → a ≡ true → b ≡ true → (a && b) ≡ true
+and_true a b p q = rw p q
 
--- a run of digits
-scanned_digits : (c : ℕ) (w : List ℕ) (rest : List ℕ) (ts : List LineToken) → AllDigits 10 (c ∷ w)
-    → scanned rest ≡ scan Nothing ts → scanned ((c ∷ w) ++ rest) ≡ scan (Digits (c ∷ w)) ts
-scanned_digits c [] rest ts h e = ap (with_byte c) e ∙ with_digit_is c (scan Nothing ts) h.0
-scanned_digits c (d ∷ w) rest ts h e =
-    ap (with_byte c) (scanned_digits d w rest ts h.1 e) ∙ with_digit_is c (scan (Digits (d ∷ w)) ts) h.0
+all_letters : (cs : List ℕ) → list_all is_ascii_alphabetic cs ≡ true → list_all is_name_start cs ≡ true
+all_letters [] h = refl
+all_letters (c ∷ cs) h = and_true _ _ (letter_starts c (both _ _ h).0) (all_letters cs (both _ _ h).1)
+
+all_digits : (cs : List ℕ) → AllDigits 10 cs → list_all is_ascii_digit cs ≡ true
+all_digits [] h = refl
+all_digits (c ∷ cs) h = and_true _ _ (digit_is c h.0) (all_digits cs h.1)
 
 -- what stands behind a part begins with a blank, if there is any
-scanned_spaced : (ps : List (List ℕ)) → scanned (each_spaced ps) ≡ scan Nothing (line_tokens (spaced ps))
-scanned_spaced [] = refl
-scanned_spaced (p ∷ ps) = refl
+behind_letters : (ps : List (List ℕ)) → begins_with is_name_start (each_spaced ps) ≡ false
+behind_letters [] = refl
+behind_letters (p ∷ ps) = refl
 
--- the tokens of what was read
-abbrev told : Scan → List LineToken
-told s = whole s.front s.tokens
+behind_digits : (ps : List (List ℕ)) → begins_with is_ascii_digit (each_spaced ps) ≡ false
+behind_digits [] = refl
+behind_digits (p ∷ ps) = refl
+
+spaced_tokens : (ps : List (List ℕ)) → line_tokens (each_spaced ps) ≡ line_tokens (spaced ps)
+spaced_tokens [] = refl
+spaced_tokens (p ∷ ps) = refl
 
 word_first : (p : List ℕ) (ps : List (List ℕ)) → is_run_of_letters p ≡ true → line_tokens (p ++ each_spaced ps) ≡ Word p ∷ line_tokens (spaced ps)
 word_first [] ps h = absurd (true≢false (sym h))
-word_first (c ∷ w) ps h = ap told (scanned_letters c w (each_spaced ps) _ (both _ _ h).1 (scanned_spaced ps))
+word_first (c ∷ w) ps h =
+    word ((c ∷ w) ++ each_spaced ps) (c ∷ w) (each_spaced ps) (record { joined = refl; passes = all_letters (c ∷ w) (both _ _ h).1; stops = behind_letters ps }) (omega arith)
+    ∙ ap (λ ts. Word (c ∷ w) ∷ ts) (spaced_tokens ps)
+
+-- the digits before what stands behind a part
+digits_front : (ds : List ℕ) (ps : List (List ℕ)) → AllDigits 10 ds → IsFront is_ascii_digit (ds ++ each_spaced ps) ds (each_spaced ps)
+digits_front ds ps h = record { joined = refl; passes = all_digits ds h; stops = behind_digits ps }
 
 digits_first : (ds : List ℕ) (n : ℕ) (ps : List (List ℕ)) → IsNumeral 10 ds × (digits_value 10 ds ≡ n) → line_tokens (ds ++ each_spaced ps) ≡ Number (pos n) ∷ line_tokens (spaced ps)
-digits_first [] n ps h = absurd (omega (arith, h.0.0))
-digits_first (c ∷ w) n ps h =
-    ap told (scanned_digits c w (each_spaced ps) _ h.0.1 (scanned_spaced ps)) ∙ ap (λ m. Number (pos m) ∷ line_tokens (spaced ps)) h.1
+digits_first ds n ps h =
+    number (ds ++ each_spaced ps) ds (each_spaced ps) (digits_front ds ps h.0.1) (omega (arith, h.0.0))
+    ∙ ap (λ ts. Number (pos (digits_value 10 ds)) ∷ ts) (spaced_tokens ps) ∙ ap (λ m. Number (pos m) ∷ line_tokens (spaced ps)) h.1
 
 minus_first : (ds : List ℕ) (n : ℕ) (ps : List (List ℕ)) → IsNumeral 10 ds × (digits_value 10 ds ≡ suc n) → line_tokens ((45 ∷ ds) ++ each_spaced ps) ≡ Number (negsuc n) ∷ line_tokens (spaced ps)
-minus_first [] n ps h = absurd (omega (arith, h.0.0))
-minus_first (c ∷ w) n ps h =
-    ap (λ s. told (with_byte 45 s)) (scanned_digits c w (each_spaced ps) _ h.0.1 (scanned_spaced ps)) ∙ ap (λ m. Number (neg_ℤ (pos m)) ∷ line_tokens (spaced ps)) h.1
+minus_first ds n ps h =
+    minus (ds ++ each_spaced ps) ds (each_spaced ps) (digits_front ds ps h.0.1) (omega (arith, h.0.0))
+    ∙ ap (λ ts. Number (neg_ℤ (pos (digits_value 10 ds))) ∷ ts) (spaced_tokens ps) ∙ ap (λ m. Number (neg_ℤ (pos m)) ∷ line_tokens (spaced ps)) h.1
 
 -- a number that 64 digits can write
 abbrev pub IsShort : ℤ → Type 0

@@ -64,16 +64,6 @@ fn first_piece<'a>(image: &'a [u8], fields: &'a [PlainField]) -> Option<Turn<'a>
     })
 }
 
-/// How many bits a number of the type has.
-fn width(ty: Ty) -> u32
-    ensures { result ≡ numbers.width_of ty }
-{
-    match ty {
-        Ty::Bool => 1,
-        Ty::Card(n) | Ty::Int(n) => n,
-    }
-}
-
 /// The word without its lowest bits.
 fn above(word: u128, low: u32) -> i128
     requires word { word < 2 ^ 64 }
@@ -81,24 +71,6 @@ fn above(word: u128, low: u32) -> i128
     ensures { result ≡ pos (word / 2 ^ low) }
 {
     (word >> low) as i128
-}
-
-/// How many bits the image of the rule has.
-pub fn image_width(rule: &PlainRule) -> u32
-    requires image { IsTrue (is_image (pieces rule.now.image) (map field_of rule.now.fields.items)) }
-    requires narrow { bits_in (pieces rule.now.image) ≤ 64 }
-    ensures { result ≡ bits_in (pieces rule.now.image) }
-{
-    let (mut image, mut fields, mut bits) = (rule.image.as_bytes(), rule.fields.as_slice(), 0);
-    while let Some(next) = first_piece(image, fields) {
-        bits += match next.part {
-            Part::Digit(_) => 1,
-            Part::Field(ty) => width(ty),
-        };
-        image = next.image;
-        fields = next.fields;
-    }
-    bits
 }
 
 /// The bit of the word with so many below it.
@@ -129,7 +101,7 @@ pub fn matches(rule: &PlainRule, width_of_word: u32, word: u128) -> bool
                     return false;
                 }
             }
-            Part::Field(ty) => left -= width(ty),
+            Part::Field(ty) => left -= ty.width(),
         }
         image = next.image;
         fields = next.fields;
@@ -156,7 +128,7 @@ pub fn number_in(rule: &PlainRule, width_of_word: u32, word: u128, field: u32) -
         match next.part {
             Part::Digit(_) => left -= 1,
             Part::Field(ty) => {
-                left -= width(ty);
+                left -= ty.width();
                 if before == 0 {
                     return wrap(ty, above(word, left));
                 }

@@ -10,10 +10,9 @@ ghost use Rattle.plain_tree.specs.IsPlain as spec;
 ghost use Rattle.plain_tree.specs.IsPlain.{IsPlain, AreRegs};
 
 use crate::action::run_action;
-use crate::decode::image_width;
 use crate::search::find;
 use crate::statement::{register_type, wrap_field};
-use plain_tree::{Exec, Plain, PlainRule, State};
+use plain_tree::{Exec, Plain, PlainRule, State, word_bits};
 
 /// Runs the instruction that the word is, and makes its writes; `None` exactly where no derivation has the word, and then the state is
 /// as before. It takes no memory.
@@ -27,7 +26,7 @@ pub fn plain_exec(p: &Plain, word: u128, s: &mut State) -> Option<Exec>
     ensures ran { MatchOption result (IsNoWord (description_of p.now) word × (s.new ≡ s.old)) (λ e. HasExecuted (description_of p.now) word s.old s.new e) }
     ensures cells_after { AreCells (description_of p.now).regs s.new.cells }
 {
-    let width = word_width(p);
+    let width = word_bits(p);
     let rule = rule_for(p, width, word)?;
     let done = run_action(p, rule, width, word, s);
     finish(p, s);
@@ -36,17 +35,6 @@ pub fn plain_exec(p: &Plain, word: u128, s: &mut State) -> Option<Exec>
         took: false,
         halt: done.halt,
     })
-}
-
-/// How many bits a word has.
-fn word_width(p: &Plain) -> u32
-    requires { IsPlain (description_of p.now) }
-    ensures { result ≡ spec.word_width (description_of p.now).rules }
-{
-    match p.rules.as_slice().split_first() {
-        Some((rule, _)) => image_width(rule),
-        None => 0,
-    }
 }
 
 /// Whether the word has no more bits than this.

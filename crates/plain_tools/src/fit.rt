@@ -9,7 +9,7 @@ ghost use Rattle.plain_tree.specs.IsPlain.{IsPlain, AreRegs};
 use crate::first_line::first_line;
 use crate::line::has_token;
 use crate::plain_text::is_plain_text;
-use crate::word_image::{power_of_two, width};
+use nk_base::power_of_two;
 use plain_tree::{Plain, PlainField};
 
 /// Whether the text is plain, and not too long for the description.
@@ -26,7 +26,7 @@ fn is_too_long(regs: &[PlainField], text: &[u8]) -> bool
     ensures { result ≡ spec.is_too_long (map field_of regs.now) (lines text.now) }
 {
     match regs.split_first() {
-        Some((pc, _)) => i128::from(instruction_lines(text)) > power_of_two(width(pc.ty)),
+        Some((pc, _)) => i128::from(instruction_lines(text)) > power_of_two(pc.ty.width()),
         None => false,
     }
 }

@@ -5,7 +5,7 @@ ghost use Rattle.plain_tools.specs.FileParts.{AreWords, IsBody, head};
 ghost use Rattle.image_file.specs.Seen.{picture_of};
 
 use image_file::Image;
-use nk_base::Memory;
+use nk_base::{Memory, behind_prefix};
 use std::alloc::Global;
 
 /// The number that the bytes write, the highest first.
@@ -33,21 +33,14 @@ fn number_at(bytes: &[u8], count: usize) -> Option<(u128, &[u8])>
     Some((number_in_bytes(front), rest))
 }
 
-/// What follows the front; `None` where the bytes don't begin with it.
-fn behind_front<'a>(bytes: &'a [u8], front: &[u8]) -> Option<&'a [u8]>
-    ensures { MatchOption result ((rest : List ℕ) → bytes.now ≡ front.now ++ rest → ⊥) (λ rest. bytes.now ≡ front.now ++ rest.now) }
-{
-    bytes.strip_prefix(front)
-}
-
 /// What follows the head of a file of this width with this digest.
 fn behind_head<'a>(bytes: &'a [u8], width: u32, digest: &[u8; 32]) -> Option<&'a [u8]>
     requires { width ≤ 64 }
     ensures { MatchOption result ((rest : List ℕ) → bytes.now ≡ head width digest.now ++ rest → ⊥) (λ rest. bytes.now ≡ head width digest.now ++ rest.now) }
 {
-    let rest = behind_front(bytes, b"NMLI")?;
-    let rest = behind_front(rest, &[1, width as u8])?;
-    behind_front(rest, digest)
+    let rest = behind_prefix(bytes, b"NMLI")?;
+    let rest = behind_prefix(rest, &[1, width as u8])?;
+    behind_prefix(rest, digest)
 }
 
 /// So many words of this width in front, and what follows them; `None` where there are none such.

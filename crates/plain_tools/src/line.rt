@@ -11,7 +11,7 @@ ghost use Rattle.nk_base.specs.Byte as byte;
 ghost use Rattle.plain_tree.specs.LineToken.{line_tokens};
 
 use nk_base::byte::{is_blank, is_name_start};
-use nk_base::{Memory, number_of_digits};
+use nk_base::{Memory, digits_len, number_of_digits};
 use std::alloc::Global;
 
 /// A token of a plain line.
@@ -112,14 +112,6 @@ fn letters_len(line: &[u8]) -> usize
     ensures within { result ≤ length line.now }
 {
     line.iter().take_while(|c| is_name_start(**c)).count()
-}
-
-/// How many digits stand at the front.
-fn digits_len(line: &[u8]) -> usize
-    ensures value { result ≡ prefix_len is_ascii_digit line.now }
-    ensures within { result ≤ length line.now }
-{
-    line.iter().take_while(|c| c.is_ascii_digit()).count()
 }
 
 /// The number that the digits write.

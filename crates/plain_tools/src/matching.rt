@@ -9,8 +9,7 @@ ghost use Rattle.plain_tree.specs.IsPlain.{IsRule, IsFieldTy};
 ghost use Rattle.plain_tree.specs.LineToken.{Word, Number};
 
 use crate::line::Token;
-use crate::word_image::power_of_two;
-use nk_base::{Memory, Ty};
+use nk_base::{Memory, Ty, power_of_two};
 use plain_tree::PlainRule;
 use std::alloc::Global;
 

@@ -9,7 +9,7 @@ ghost use Rattle.plain_tree.specs.Effect.{effect, type_at, value_of};
 ghost use Rattle.plain_tree.specs.IsPlain.{AreRegs, IsFieldTy, IsStmt};
 
 use crate::decode::number_in;
-use nk_base::{Ty, wrap};
+use nk_base::{Ty, low_bits, wrap};
 use plain_tree::{Plain, PlainRule, PlainStmt, PlainValue, State};
 
 /// What was put out and whether the machine stops, by the statements so far.
@@ -64,7 +64,7 @@ fn put_out(ty: Ty, z: i128) -> i64
 fn halt_code(z: i128) -> u8
     ensures { result ≡ unsigned_abs (low_bits 8 z) }
 {
-    z.rem_euclid(256) as u8
+    low_bits(z, 8) as u8
 }
 
 /// Runs the statement: keeps its write, or remembers what it puts out or the halt code. It takes no memory.

@@ -6,7 +6,7 @@ ghost use Rattle.plain_tree.specs.Attribute.{pieces, image_of, number_of_bits};
 ghost use Rattle.plain_tree.specs.Description.{rule_of};
 ghost use Rattle.plain_tree.specs.IsPlain.{is_image, image_width};
 
-use nk_base::Ty;
+use nk_base::{Ty, low_bits, power_of_two};
 use plain_tree::PlainRule;
 
 /// The word of the rule's image with these numbers in its fields.
@@ -52,25 +52,6 @@ fn with_number(word: u128, ty: Ty, number: i128) -> u128
     requires width { width_of ty ≤ 64 }
     ensures { result ≡ word * 2 ^ width_of ty + unsigned_abs (low_bits (width_of ty) number) }
 {
-    let above = power_of_two(width(ty));
-    word * above.unsigned_abs() + number.rem_euclid(above).unsigned_abs()
-}
-
-/// How many bits a number of the type has.
-pub fn width(ty: Ty) -> u32
-    ensures { result ≡ width_of ty }
-{
-    match ty {
-        Ty::Bool => 1,
-        Ty::Card(width) => width,
-        Ty::Int(width) => width,
-    }
-}
-
-/// Two to the power of n.
-pub fn power_of_two(n: u32) -> i128
-    requires { n ≤ 126 }
-    ensures { result ≡ pos (2 ^ n) }
-{
-    1 << n
+    let width = ty.width();
+    word * power_of_two(width).unsigned_abs() + low_bits(number, width).unsigned_abs()
 }

@@ -12,7 +12,7 @@ ghost use Rattle.plain_tree.specs.IsPlain.{bits_in, characters_before};
 ghost use Rattle.plain_tree.specs.IsPlain as spec;
 
 use crate::PlainField;
-use nk_base::Ty;
+use nk_base::{Ty, digits_len};
 
 /// A number above every width: what is larger counts as this.
 const LIMIT: u64 = 1 << 32;
@@ -62,19 +62,6 @@ fn split_digits(bytes: &[u8]) -> (&[u8], &[u8])
     bytes.split_at(digits_len(bytes))
 }
 
-/// How many digits stand in front.
-fn digits_len(bytes: &[u8]) -> usize
-    ensures exact { result ≡ prefix_len is_ascii_digit bytes.now }
-    ensures within { result ≤ length bytes.now }
-{
-    for (i, c) in bytes.iter().enumerate() {
-        if !c.is_ascii_digit() {
-            return i;
-        }
-    }
-    bytes.len()
-}
-
 /// The number that the digits write, as far as the limit.
 fn number(digits: &[u8]) -> u64
     requires { IsTrue (list_all is_ascii_digit digits.now) }
@@ -93,11 +80,7 @@ fn is_width(digits: &[u8], ty: Ty) -> bool
     requires { IsTrue (list_all is_ascii_digit digits.now) }
     ensures { result ≡ (digits_value 10 digits.now == width_of ty) }
 {
-    match ty {
-        Ty::Bool => number(digits) == 1,
-        Ty::Card(n) => number(digits) == u64::from(n),
-        Ty::Int(n) => number(digits) == u64::from(n),
-    }
+    number(digits) == u64::from(ty.width())
 }
 
 /// Whether the characters are bits, and the directives write the fields in order with their widths.

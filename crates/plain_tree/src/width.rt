@@ -1,5 +1,4 @@
 ghost use Rattle.std.specs.Prelude.{◌≡◌, ◌<◌, ◌≤◌, ◌^◌, ℤ, List, length, Contains};
-ghost use Rattle.nk_base.specs.Number.{width_of};
 ghost use Rattle.plain_tree.specs.Attribute.{image_of, number_of_bits};
 ghost use Rattle.plain_tree.specs.Description.{Description, Rule, description_of};
 ghost use Rattle.plain_tree.specs.Instruction.{Fill};
@@ -7,7 +6,6 @@ ghost use Rattle.plain_tree.specs.IsPlain.{IsPlain, word_width, pc_width};
 
 use crate::Plain;
 use crate::image::image_width;
-use nk_base::Ty;
 
 /// How many bits a word of the plain description has, 8 to 64: those of each rule's image.
 ///
@@ -32,19 +30,8 @@ pub fn pc_bits(p: &Plain) -> u32
     ensures within { result ≤ 16 }
 {
     match p.regs.first() {
-        Some(pc) => type_bits(pc.ty),
+        Some(pc) => pc.ty.width(),
         None => 0,
-    }
-}
-
-/// How many bits a number of the type has.
-fn type_bits(ty: Ty) -> u32
-    ensures { result ≡ width_of ty }
-{
-    match ty {
-        Ty::Bool => 1,
-        Ty::Card(n) => n,
-        Ty::Int(n) => n,
     }
 }
 
