@@ -1,6 +1,7 @@
 //! The suite's top call: words in, text and a status out.
 #![tactic(auto)]
 
+mod arguments;
 mod assemble;
 mod command;
 mod describe;
@@ -17,6 +18,7 @@ mod tell;
 mod tests;
 mod top;
 
+pub use arguments::{tell_memory, words_of};
 pub use law::asm_then_run;
 pub use status::Status;
 pub use top::suite;
