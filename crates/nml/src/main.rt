@@ -1,39 +1,19 @@
 //! The program: the words of the command line, the files of the system, and standard output.
 #![tactic(auto)]
 
-use nk_base::{Memory, Text};
+use nk_base::Memory;
 use nk_outside::{OsFiles, OsSink};
-use nml_suite::{Status, suite};
-use std::alloc::Global;
-use std::env;
-use std::io::{self, ErrorKind};
+use nml_suite::{suite, tell_memory, words_of};
 use std::process::ExitCode;
+use std::{env, io};
 
-/// Ends with the number of the status that the suite answers.
+/// Calls the suite with the words behind the program's name, and ends with the number of the status that it answers.
 fn main(rt: HostRuntime) -> ExitCode {
     let alloc = rt.alloc();
-    let status = match words_of(&rt, alloc) {
-        Ok(words) => {
-            let mut files = OsFiles::new(rt);
-            let mut sink = OsSink::new(io::writer(&rt));
-            suite(alloc, &words, &mut files, &mut sink)
-        }
-        Err(Memory) => Status::Memory,
+    let mut sink = OsSink::new(io::writer(&rt));
+    let status = match words_of(alloc, env::args(&rt)) {
+        Ok(words) => suite(alloc, &words, &mut OsFiles::new(rt), &mut sink),
+        Err(Memory) => tell_memory(alloc, &mut sink),
     };
     ExitCode::from(status.number())
-}
-
-/// The words after the program's name; none where one isn't UTF-8, which then match no form.
-fn words_of(rt: &HostRuntime, alloc: Global) -> Result<Vec<Text>, Memory> {
-    let mut words = Vec::new(alloc);
-    match env::args(rt) {
-        Ok(args) => {
-            for word in args.skip(1) {
-                words.push(Text::from_vec(word.into_bytes()))?;
-            }
-            Ok(words)
-        }
-        Err(fault) if fault.kind() == ErrorKind::OutOfMemory => Err(Memory),
-        Err(_) => Ok(words),
-    }
 }

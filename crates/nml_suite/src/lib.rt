@@ -1,6 +1,7 @@
 //! The suite's top call: words in, text and a status out.
 #![tactic(auto)]
 
+mod arguments;
 mod assemble;
 mod command;
 mod describe;
@@ -16,6 +17,7 @@ mod stop;
 mod tell;
 mod top;
 
+pub use arguments::{tell_memory, words_of};
 pub use law::{asm_then_run, one_work, some_work};
 pub use status::Status;
 pub use top::suite;
