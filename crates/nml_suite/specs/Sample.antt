@@ -1,16 +1,21 @@
 -- Worked examples of the definitions, each by computation.
-use Rattle.std.proofs.Common.{lit≤}
-use Rattle.std.specs.Prelude.{◌≡◌, ◌<◌, ◌^◌, ℕ, [], ◌∷◌, Some, None, true, false, codes, refl, pos, negsuc}
+use Rattle.std.proofs.Common.{lit≤, arith, inl, inr}
+use Rattle.std.proofs.lemmas.Int.{ints}
+use Rattle.std.specs.Prelude.{◌≡◌, ◌≢◌, ◌<◌, ◌^◌, ℕ, List, [], ◌∷◌, Some, None, true, false, codes, refl, pos, negsuc}
 use Rattle.std.specs.Fmt.{digits}
+use Rattle.plain_tree.specs.PlainTree.{IsPlainTree}
 use Rattle.plain_tree.specs.SampleMachine as sample
 use Rattle.nk_base.specs.declared.number.Bits.{Bits}
+use Rattle.nml_tree.specs.declared.tree.Desc.{Desc}
 use Rattle.nml_tree.specs.declared.fault.DescFault.TheVariants as faults
 use Rattle.nml_tree.specs.declared.fault.Root.TheVariants as roots
 use Rattle.image_file.specs.File.{file}
 use Rattle.plain_tools.specs.PlainText.{lines}
 use Rattle.plain_tools.specs.SampleRun as runs
-use Rattle.nml_suite.specs.Coming.{RunsTo, Input, Ran, first_input, written_image, picture}
-use Rattle.nml_suite.specs.Described.{is_built}
+use Rattle.plain_tools.specs.Assembly.{Assembles}
+use Rattle.nml_suite.specs.Coming.{Opened, Accepted, Plain, Words, RunsTo, Input, Ran, AsmComesTo, first_input, written_image, picture}
+use Rattle.nml_suite.specs.Described.{IsAccepted, is_built}
+use Rattle.nml_suite.specs.Reading.{Got}
 use Rattle.nml_suite.specs.Form.{Asm, Run, Demo, form_of, files_to_read, file_to_write}
 use Rattle.nml_suite.specs.Reply.{description_fault, reply, output_lines, word_lines}
 use Rattle.nml_suite.specs.Work.{telling}
@@ -116,3 +121,76 @@ program = Ran refl (runs.outcome (pos 5 ∷ [])) runs.prints (record { last = re
 refused_input : RunsTo (codes "x") 3 sample.running_machine runs.words (codes "\n7") [] (telling (reply statuses.Input (codes "x: Input 2\n")))
 unfolding digits
 refused_input = Input 2 refl (record { last = refl; is = refl })
+
+-- ---- `asm` of a whole text
+
+abbrev text : List ℕ
+text = codes "ldi 5\nouta\nhlt 0\n"
+
+abbrev row_words : List ℕ
+row_words = 0x105 ∷ 0x200 ∷ 0 ∷ []
+
+some_tokens : {A : Type 0} {x : A} {xs : List A} → x ∷ xs ≢ []
+some_tokens e = absurd (cc e)
+
+-- each line of the text gives its word, and what stands behind the last line feed gives none
+row_assembles : Assembles sample.running_machine (lines text) row_words
+row_assembles = (
+  0x105 ∷ [],
+  0x200 ∷ 0 ∷ [],
+  refl,
+  inr (
+    0x105,
+    some_tokens,
+    record {
+      by = record { rule = record sample.ldi { action = sample.ldi_action }; numbers = pos 5 ∷ []; among = (0, omega arith, refl); fill = ((omega (arith, ints), omega (arith, ints)), tt) };
+      syntax = refl;
+      image = refl;
+    },
+    refl,
+  ),
+  (
+    0x200 ∷ [],
+    0 ∷ [],
+    refl,
+    inr (
+      0x200,
+      some_tokens,
+      record {
+        by = record { rule = record sample.outa { action = sample.outa_action }; numbers = []; among = (1, omega arith, refl); fill = tt };
+        syntax = refl;
+        image = refl;
+      },
+      refl,
+    ),
+    (
+      0 ∷ [],
+      [],
+      refl,
+      inr (
+        0,
+        some_tokens,
+        record {
+          by = record { rule = record sample.hlt { action = sample.hlt_action }; numbers = pos 0 ∷ []; among = (2, omega arith, refl); fill = ((omega (arith, ints), omega (arith, ints)), tt) };
+          syntax = refl;
+          image = refl;
+        },
+        refl,
+      ),
+      ([], [], refl, inl (refl, refl), refl),
+    ),
+  ),
+)
+
+-- where these bytes are the machine, its text comes to the image of three words, and to four lines
+first_row : (bytes : List ℕ) (tree : Desc) → IsAccepted bytes tree → IsPlainTree tree sample.running_machine
+    → AsmComesTo (codes "m1") (codes "s") (codes "i") ((codes "m1", Got bytes) ∷ (codes "s", Got text) ∷ [])
+    (record {
+      file = Some (record { name = codes "i"; bytes = file (picture bytes sample.running_machine row_words) });
+      reply = reply statuses.Done (codes "105\n200\n000\nok: 3 words\n");
+    })
+unfolding digits
+first_row bytes tree accepted plain =
+    Opened bytes _ refl
+        (Accepted tree accepted
+        (Plain sample.running_machine (record { plain = plain; built = refl }) (Opened text _ refl (Words refl row_words row_assembles refl refl))))
