@@ -6,9 +6,10 @@ ghost use Rattle.plain_tree.specs.IsPlain.{AreRegs, IsPlain};
 
 use crate::Step;
 use crate::exec::plain_exec;
+use crate::state::{Exec, State};
 use image_file::Image;
 use nk_base::Memory;
-use plain_tree::{Exec, Plain, State};
+use plain_tree::Plain;
 use std::alloc::Global;
 use std::marker::Model;
 

@@ -1,11 +1,11 @@
 //! The state of a machine.
 
 ghost use Rattle.std.specs.Prelude.{◌≡◌, ◌<◌, ℕ, [], ◌∷◌, ◌++◌, false, length, slice_get, slice_set, IfOk, IsTrue, replicate, pos, Some};
-ghost use Rattle.plain_tree.specs.SeenWrites.{seen_writes};
+ghost use Rattle.plain_tools.specs.SeenWrites.{seen_writes};
 ghost use Rattle.plain_tree.specs.Cells.{committed, is_kept};
 
-use crate::Plain;
 use nk_base::Memory;
+use plain_tree::Plain;
 use std::alloc::Global;
 use std::marker::Model;
 
@@ -28,7 +28,7 @@ pub struct State {
 impl Model for State {
     ghost use Rattle.std.specs.Prelude.{List, map, vec_capacity};
     ghost use Rattle.plain_tree.specs.Cells.{Shown, IsState};
-    ghost use Rattle.plain_tree.specs.SeenWrites.{seen_writes};
+    ghost use Rattle.plain_tools.specs.SeenWrites.{seen_writes};
 
     ghost Value = { Shown };
 
