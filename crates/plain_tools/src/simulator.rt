@@ -1,4 +1,4 @@
-ghost use Rattle.std.specs.Prelude.{◌≡◌, ◌<◌, [], length, IfOk, None, replicate, pos, slice_get, unsigned_abs};
+ghost use Rattle.std.specs.Prelude.{◌≡◌, ◌<◌, [], length, IfOk, None, slice_get, unsigned_abs};
 ghost use Rattle.plain_tools.specs.Machine.{IsStep, beginning, ran};
 ghost use Rattle.plain_tree.specs.Description.{description_of};
 ghost use Rattle.plain_tree.specs.Effect.{AreCells, number_at};
