@@ -18,7 +18,8 @@ struct Write {
 
 /// The cells of a machine, one for each storage, and the writes that are kept for the end of an instruction, at most one for each cell.
 ///
-/// It has room for one write per cell from the beginning, so no call but the one that makes it takes memory.
+/// It has room for one write per cell from the beginning, so no call but the one that makes it takes memory. That writes are kept until an
+/// instruction's end is this project's own rule.
 #[derive(Drop)]
 pub struct State {
     cells: Vec<i128>,
