@@ -46,9 +46,9 @@ pub trait Files {
     /// The bytes of a name, at most [`FILE_LIMIT`]. It changes no file.
     ///
     /// The count of read faults rises exactly where the answer is `Failed`, and that of absent names exactly where it is
-    /// `Absent`; no write fault is counted. Where the map is told, `Absent` comes only where the name has no file,
-    /// `TooLong` only where it has more than [`FILE_LIMIT`] bytes, and bytes only where they are those of the name. Want
-    /// of memory may come at any growth.
+    /// `Absent`; no write fault is counted. Where the map is told and the call met no other fault, `Absent` comes exactly
+    /// where the name has no file, `TooLong` exactly where it has more than [`FILE_LIMIT`] bytes, and else the bytes are
+    /// those of the name. Want of memory may come at any growth.
     fn read(&mut self, alloc: Global, name: &Text) -> Result<Vec<u8>, ReadFault>
         ensures held { held self.new ≡ held self.old }
         ensures bytes { IfOk result (λ bytes. Reads (held self.old) name.now bytes.items) }
