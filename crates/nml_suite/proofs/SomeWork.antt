@@ -52,7 +52,7 @@ accepts_tree answers k name bytes goes tree is h (inr float) none = none [] _ tt
 
 accepts_by : (answers : Answering) (k : ℕ) (name bytes : List ℕ) (goes : Desc → List Asked → Work → Type 0) → ((tree : Desc) → Comes answers k (goes tree))
     → ((d : Desc) × IsTree bytes d) ⊎ (((at : ℕ) × HasNoTree bytes at) ⊎ ((at : ℕ) × IsStuckAt bytes at)) → Comes answers k (Accepts name bytes goes)
-accepts_by answers k name bytes goes h (inl x) = accepts_tree answers k name bytes goes x.0 x.1 h (some_float bytes x.0 x.1)
+accepts_by answers k name bytes goes h (inl x) none = accepts_tree answers k name bytes goes x.0 x.1 h (some_float bytes x.0 x.1) none
 accepts_by answers k name bytes goes h (inr (inl x)) none = none [] _ tt (Faulty (faults.Syntax x.0) x.1 (record { last = refl; is = refl }))
 accepts_by answers k name bytes goes h (inr (inr x)) none = none [] _ tt (Faulty (faults.Lex x.0) x.1 (record { last = refl; is = refl }))
 

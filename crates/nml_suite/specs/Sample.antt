@@ -135,6 +135,7 @@ some_tokens e = absurd (cc e)
 
 -- each line of the text gives its word, and what stands behind the last line feed gives none
 row_assembles : Assembles sample.running_machine (lines text) row_words
+unfolding digits
 row_assembles = (
   0x105 ∷ [],
   0x200 ∷ 0 ∷ [],
