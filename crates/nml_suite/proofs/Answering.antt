@@ -1,5 +1,5 @@
 -- The answer of a whole command, from what its steps come to.
-use Rattle.std.proofs.Common.{◌≡◌, inl, inr, ℕ, ◌<◌, [], ◌∷◌, length, List, Option, Some, None, Ok, Err, refl, sym, subst, arith}
+use Rattle.std.proofs.Common.{◌≡◌, inl, inr, ℕ, ◌<◌, [], length, List, Option, Some, None, Ok, Err, refl, sym, subst, arith}
 use Rattle.std.specs.Prelude.{IsTrue, nat_lt}
 use Rattle.std.proofs.lemmas.Bool.Decides.{nat_tests}
 use Rattle.std.proofs.lemmas.List.{length-map}
@@ -11,7 +11,7 @@ use Rattle.nml_suite.specs.Cause.{IsOther}
 use Rattle.nml_suite.specs.Coming.{ComesTo}
 use Rattle.nml_suite.specs.Form.{Form, Check, Asm, Dis, Run, Cc, Ceval, Demo, named_to_read, named_to_write}
 use Rattle.nml_suite.specs.Reading.{Store}
-use Rattle.nml_suite.specs.Refusing.{refused, settled, file_named, Settles, IsStored, IsReady}
+use Rattle.nml_suite.specs.Refusing.{refused, file_named, Settles, IsStored, IsReady}
 use Rattle.nml_suite.specs.Reply.{Reply, reply, not_built, told_run, usage_line}
 use Rattle.nml_suite.specs.Running.{TellsRun, opened}
 use Rattle.nml_suite.specs.Told.{Told}

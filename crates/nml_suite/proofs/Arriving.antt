@@ -1,5 +1,5 @@
 -- How the steps of a command are put together: the first files lead to what the rest comes to.
-use Rattle.std.proofs.Common.{◌≡◌, ◌⊎◌, inl, inr, ℕ, List, [], ◌∷◌, ◌++◌, Option, Some, None, Result, Ok, Err, refl, sym, ap, ◌∙◌, subst, append_assoc}
+use Rattle.std.proofs.Common.{◌≡◌, ◌⊎◌, inl, inr, ℕ, List, [], ◌∷◌, ◌++◌, None, Result, Ok, Err, refl, sym, ap, subst, append_assoc}
 use Rattle.plain_tree.specs.Description.{Description}
 use Rattle.image_file.specs.Seen.{picture_of}
 use Rattle.image_file.specs.declared.image.Image.{Image}
@@ -7,9 +7,9 @@ use Rattle.plain_tools.specs.PlainText.{lines}
 use Rattle.nml_suite.specs.Answer.{AreNamed}
 use Rattle.nml_suite.specs.Coming.{Opens, Short, Opened, Accepts, Faulty, Accepted, Simplifies, Other, Plain, AssemblesTo, NotPlain, NoMatch, Words, Loads, NoImage, Loaded, RunsTo, Input, Ran, IsImageOf, first_input}
 use Rattle.nml_suite.specs.Described.{Describes}
-use Rattle.nml_suite.specs.Reading.{Store, Reading, Got, IsShort, Asked, IsRead, AreRead}
+use Rattle.nml_suite.specs.Reading.{Store, Reading, Got, IsShort, Asked, IsRead}
 use Rattle.nml_suite.specs.Reply.{assembled, starved, unread}
-use Rattle.nml_suite.specs.Refusing.{refused, settled, file_named, Settles, Arrives, IsUnread, IsDescribed, IsAssembledText, IsFound, IsBlankInput, TellsRunOf}
+use Rattle.nml_suite.specs.Refusing.{refused, settled, Settles, Arrives, IsUnread, IsDescribed, IsAssembledText, IsFound, IsBlankInput, TellsRunOf}
 use Rattle.nml_suite.specs.Work.{Work, telling}
 use Rattle.nml_suite.specs.declared.assemble.Assembled.{Assembled}
 use Rattle.nml_suite.specs.declared.purpose.Purpose.{Purpose}

@@ -10,9 +10,9 @@ use Rattle.plain_tools.specs.Machine.{Stop, Running, Halted, NoWord, BadWord}
 use Rattle.plain_tools.specs.Machine as machine
 use Rattle.plain_tools.specs.PlainText.{lines}
 use Rattle.nml_suite.specs.Answer.{Moment, Answers}
-use Rattle.nml_suite.specs.Cause.{HasCause, HasShortFile, HasBytes, HasDescription, HasOtherDescription, HasText, HasMachine, HasImage, IsNotBuilt, Command, Assembled, Text, Machine, Image, IsUsage}
+use Rattle.nml_suite.specs.Cause.{HasCause, HasBytes, HasDescription, HasOtherDescription, HasMachine, HasImage, IsNotBuilt, Command, Assembled, Text, Machine, Image, IsUsage}
 use Rattle.nml_suite.specs.Coming.{EndsWith, Opens, Short, Opened, Accepts, Faulty, Accepted, Simplifies, Other, Plain, AssemblesTo, NotPlain, NoMatch, Words, Loads, NoImage, Loaded, RunsTo, Input, Ran, IsImageOf, AsmComesTo, RunComesTo, ComesTo, first_input}
-use Rattle.nml_suite.specs.Described.{IsAccepted, IsBuilt}
+use Rattle.nml_suite.specs.Described.{IsAccepted}
 use Rattle.nml_suite.specs.Files.{HaveCauses, Leaves}
 use Rattle.nml_suite.specs.Form.{Form, Check, Asm, Dis, Run, Cc, Ceval, Demo, named_to_read}
 use Rattle.nml_suite.specs.Reading.{Store, Reading, Got, Absent, Failed, TooLong, Unread, IsShort, HasReading, Asked}

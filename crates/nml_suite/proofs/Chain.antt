@@ -1,10 +1,10 @@
 -- What holds of each work that words come to, step by step.
-use Rattle.std.proofs.Common.{◌≡◌, ℕ, suc, List, [], ◌∷◌, Option, Some, None, refl, sym, ap, subst}
+use Rattle.std.proofs.Common.{◌≡◌, ℕ, List, [], ◌∷◌, Option, Some, None, sym, ap, subst}
 use Rattle.plain_tree.specs.Description.{Description}
 use Rattle.nml_tree.specs.declared.tree.Desc.{Desc}
 use Rattle.nml_suite.specs.Coming.{EndsWith, Opens, Short, Opened, Accepts, Faulty, Accepted, Simplifies, Other, Plain, AssemblesTo, NotPlain, NoMatch, Words, Loads, NoImage, Loaded, RunsTo, Input, Ran, ComesTo}
 use Rattle.nml_suite.specs.Form.{Form, Check, Asm, Dis, Run, Cc, Ceval, Demo}
-use Rattle.nml_suite.specs.Reading.{Reading, Got, Absent, Failed, TooLong, Unread, IsShort, Asked}
+use Rattle.nml_suite.specs.Reading.{Reading, Unread, IsShort, Asked}
 use Rattle.nml_suite.specs.Reply.{Reply}
 use Rattle.nml_suite.specs.Work.{Work, Written, telling}
 use Rattle.nml_suite.specs.declared.purpose.Purpose.{Purpose}

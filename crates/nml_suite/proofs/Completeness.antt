@@ -1,5 +1,5 @@
 -- Where the files are told and nothing fails, what the words come to is answered in full, or memory was wanted.
-use Rattle.std.proofs.Common.{◌≡◌, ◌⊎◌, ℕ, ◌≤◌, ◌<◌, suc, List, [], ◌∷◌, length, Option, Some, None, refl, sym, ap, ◌∙◌, subst, arith, inl, inr}
+use Rattle.std.proofs.Common.{◌≡◌, ◌⊎◌, ℕ, ◌≤◌, ◌<◌, suc, List, [], ◌∷◌, length, Option, Some, refl, sym, ap, ◌∙◌, subst, arith, inl, inr}
 use Rattle.std.specs.Prelude.{true, false, nat_le, if◌then◌else◌}
 use Rattle.std.proofs.lemmas.Bool.Decides.{nat_tests}
 use Rattle.nk_outside.specs.Count.{Rose}
@@ -33,12 +33,12 @@ as_told : (names : Names) (b n : Store) (name : List ℕ) (r : Reading) → b.he
     → HasReading b.held b.counts n.counts name r → r ≡ reading_of (names name)
 as_told names b n name r held never told h = by_case r told (subst (λ q. HasReading q b.counts n.counts name r) held h)
   where
-  by_case : (x : Reading) → (x ≡ Unread → ⊥) → HasReading (Some names) b.counts n.counts name x → x ≡ reading_of (names name)
-  by_case (Got bytes) t k = sym (ap reading_of k.0 ∙ limit_above bytes k.1)
-  by_case Absent t k = sym (ap reading_of k.0)
-  by_case readings.Failed t k = absurd (never k)
-  by_case TooLong t k = sym (ap reading_of k.1 ∙ limit_below k.0 k.2)
-  by_case Unread t k = absurd (t refl)
+    by_case : (x : Reading) → (x ≡ Unread → ⊥) → HasReading (Some names) b.counts n.counts name x → x ≡ reading_of (names name)
+    by_case (Got bytes) t k = sym (ap reading_of k.0 ∙ limit_above bytes k.1)
+    by_case Absent t k = sym (ap reading_of k.0)
+    by_case readings.Failed t k = absurd (never k)
+    by_case TooLong t k = sym (ap reading_of k.1 ∙ limit_below k.0 k.2)
+    by_case Unread t k = absurd (t refl)
 
 all_as_told : (names : Names) (b n : Store) (place : ℕ) (xs : List Asked) → b.held ≡ Some names → (Rose b.counts.read_faults n.counts.read_faults → ⊥) → NoneUnread xs
     → HaveCauses b n xs → AreAnswered (told_of names) place xs

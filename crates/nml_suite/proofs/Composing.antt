@@ -1,5 +1,5 @@
 -- The two commands compose.
-use Rattle.std.proofs.Common.{◌≡◌, ℕ, List, [], ◌∷◌, Option, Some, None, refl, sym, ap, ◌∙◌, subst}
+use Rattle.std.proofs.Common.{◌≡◌, ℕ, List, [], ◌∷◌, Some, None, refl, sym, ap, ◌∙◌, subst}
 use Rattle.std.specs.Prelude.{Bool, true, false, if◌then◌else◌, IsTrue}
 use Rattle.plain_tree.specs.Description.{Description}
 use Rattle.plain_tree.specs.PlainTree.{IsPlainTree}
@@ -30,16 +30,16 @@ same_list e = cc
 got_first : (name bytes other : List ℕ) (xs more : List Asked) → (name, Got bytes) ∷ xs ≡ (name, Got other) ∷ more → bytes ≡ other
 got_first name bytes other xs more e = same_bytes (ap (λ ys. reading_at ys) e)
   where
-  reading_at : List Asked → Reading
-  reading_at [] = Unread
-  reading_at (one ∷ more) = one.1
+    reading_at : List Asked → Reading
+    reading_at [] = Unread
+    reading_at (one ∷ more) = one.1
 
 not_short : (name bytes : List ℕ) (xs : List Asked) (r : Reading) → (name, Got bytes) ∷ xs ≡ (name, r) ∷ [] → IsShort r → ⊥
 not_short name bytes xs r e h = subst IsShort (sym (ap (λ ys. reading_at ys) e)) h
   where
-  reading_at : List Asked → Reading
-  reading_at [] = Unread
-  reading_at (one ∷ more) = one.1
+    reading_at : List Asked → Reading
+    reading_at [] = Unread
+    reading_at (one ∷ more) = one.1
 
 -- where a file gave these bytes, the call goes on with them
 goes_on : (name bytes : List ℕ) (xs : List Asked) (goes : List ℕ → List Asked → Work → Type 0) (w : Work) → Opens name goes ((name, Got bytes) ∷ xs) w → goes bytes xs w

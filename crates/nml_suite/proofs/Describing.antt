@@ -1,13 +1,8 @@
 -- A description from its tree.
-use Rattle.std.proofs.Common.{◌≡◌, inl, inr, List, ℕ, Result, Ok, Err, subst, sym, ap, ◌∙◌}
-use Rattle.std.specs.Prelude.{Bool, true, false, if◌then◌else◌}
-use Rattle.nml_tree.specs.declared.fault.DescFault.{DescFault}
-use Rattle.nml_tree.specs.declared.fault.DescFault.TheVariants as faults
+use Rattle.std.proofs.Common.{inl, inr, List, ℕ, Result, Ok, Err}
 use Rattle.plain_tree.specs.declared.rules.Plain.{Plain}
 use Rattle.nml_tree.specs.declared.tree.Desc.{Desc}
-use Rattle.nml_suite.specs.Described.{HasFault, is_memory}
-use Rattle.nml_suite.specs.Refusing.{refused, IsDescribed, IsReadAs, IsDescribedBy}
-use Rattle.nml_suite.specs.Reply.{Reply, starved, description_fault}
+use Rattle.nml_suite.specs.Refusing.{IsDescribed, IsReadAs, IsDescribedBy}
 use Rattle.nml_suite.specs.declared.purpose.Purpose.{Purpose}
 use Rattle.nml_suite.specs.declared.refusal.Refusal.{Refusal}
 

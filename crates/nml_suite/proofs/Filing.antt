@@ -1,13 +1,12 @@
 -- What came of the file to be written, after the reads: which files stay, and how many calls there were.
-use Rattle.std.proofs.Common.{◌≡◌, ◌⊎◌, ◌≤◌, ◌+◌, ℕ, List, Option, Some, None, length, refl, sym, ap, ◌∙◌, subst, inl, inr, arith}
-use Rattle.nk_outside.specs.Count.{Rose}
+use Rattle.std.proofs.Common.{◌≡◌, ◌≤◌, ◌+◌, ℕ, List, Option, Some, None, length, refl, sym, ap, ◌∙◌, subst, arith}
 use Rattle.nk_outside.specs.Held.{Names, SameElsewhere}
 use Rattle.nml_suite.specs.Answer.{IsNamed}
-use Rattle.nml_suite.specs.Files.{KeepsFiles, Leaves, LeavesBut, count_of}
+use Rattle.nml_suite.specs.Files.{Leaves, LeavesBut, count_of}
 use Rattle.nml_suite.specs.Reading.{Store, Asked, AreRead}
 use Rattle.nml_suite.specs.Reply.{Reply}
 use Rattle.nml_suite.specs.Work.{Work, Written, IsWriteCall, IsSaved, Filed, Kept, Failed, Starved}
-use Rattle.nml_suite.proofs.ReadRows.{Later, counted_once, reads_later, reads_calls}
+use Rattle.nml_suite.proofs.ReadRows.{Later, counted_once, reads_calls}
 
 -- how many calls a write is
 abbrev pub writes : Option Written → ℕ
@@ -59,9 +58,9 @@ leaves_of b m n (Some f) l w = record { holds = w.holds; others = subst (λ x. S
 pub same_held : (name : List ℕ) (h k : Option Names) → k ≡ h → SameElsewhere name h k
 same_held name h k e = subst (SameElsewhere name h) (sym e) (itself h)
   where
-  itself : (q : Option Names) → SameElsewhere name q q
-  itself None = tt
-  itself (Some q) = λ other differs. refl
+    itself : (q : Option Names) → SameElsewhere name q q
+    itself None = tt
+    itself (Some q) = λ other differs. refl
 
 -- no file but the one of the work's name is changed
 leaves_but : (b n : Store) (f : Option Written) (name : Option (List ℕ)) → IsNamed f name → Leaves b n f → LeavesBut b n name

@@ -12,9 +12,9 @@ use Rattle.plain_tools.proofs.Instructions.{same_word}
 use Rattle.plain_tools.proofs.OneRun.{one_run}
 use Rattle.nml_suite.specs.Coming.{EndsWith, Opens, Short, Opened, Accepts, Faulty, Accepted, Simplifies, Other, Plain, AssemblesTo, NotPlain, NoMatch, Words, Loads, NoImage, Loaded, RunsTo, Input, Ran, IsImageOf, ComesTo, picture, made}
 use Rattle.nml_suite.specs.Complete.{Answering, AreAnswered, ComesOut}
-use Rattle.nml_suite.specs.Described.{IsAccepted, IsBuilt}
+use Rattle.nml_suite.specs.Described.{IsAccepted}
 use Rattle.nml_suite.specs.Form.{Form, Check, Asm, Dis, Run, Cc, Ceval, Demo}
-use Rattle.nml_suite.specs.Reading.{Reading, Got, IsShort, Asked}
+use Rattle.nml_suite.specs.Reading.{Got, IsShort, Asked}
 use Rattle.nml_suite.specs.Reply.{Reply, unread, description_fault, no_match, bad_input, told_run}
 use Rattle.nml_suite.specs.Work.{Work, telling}
 use Rattle.nml_suite.specs.declared.purpose.Purpose.{Purpose}

@@ -1,7 +1,7 @@
 -- Rows of reads: put one after another, the causes that they leave, and what they leave alone.
-use Rattle.std.proofs.Common.{◌≡◌, ◌≤◌, ◌+◌, ℕ, List, [], ◌∷◌, ◌++◌, Option, length, refl, sym, ◌∙◌, subst, arith}
-use Rattle.nk_outside.specs.Count.{Counts, counted}
-use Rattle.nk_outside.specs.Held.{Names, Reads, Lacks, IsTooLong}
+use Rattle.std.proofs.Common.{◌≡◌, ◌≤◌, ◌+◌, ℕ, List, [], ◌∷◌, ◌++◌, length, refl, sym, ◌∙◌, subst, arith}
+use Rattle.nk_outside.specs.Count.{counted}
+use Rattle.nk_outside.specs.Held.{Reads, Lacks, IsTooLong}
 use Rattle.nml_suite.specs.Files.{HaveCauses}
 use Rattle.nml_suite.specs.Reading.{Store, Reading, Got, Absent, Failed, TooLong, Unread, HasReading, Asked, IsRead, AreRead}
 

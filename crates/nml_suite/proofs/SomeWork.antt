@@ -1,5 +1,5 @@
 -- However the reads are answered, it can't be that words come to nothing.
-use Rattle.std.proofs.Common.{◌≡◌, ◌⊎◌, ℕ, suc, List, [], ◌∷◌, Option, Some, None, refl, sym, ap, ◌∙◌, subst, inl, inr}
+use Rattle.std.proofs.Common.{◌≡◌, ◌⊎◌, ℕ, suc, List, [], ◌∷◌, Option, Some, None, refl, sym, inl, inr}
 use Rattle.std.specs.Prelude.{Bool, true, false}
 use Rattle.nml_tree.specs.declared.fault.DescFault.TheVariants as faults
 use Rattle.nml_tree.specs.declared.tree.Desc.{Desc}
@@ -7,16 +7,15 @@ use Rattle.nml_tree.specs.Floats.{float_places}
 use Rattle.nml_lex.specs.Lexed.{IsStuckAt}
 use Rattle.nml_read.specs.Trees.{IsTree, HasNoTree, IsFloat}
 use Rattle.nml_read.proofs.SomeReading.{some_tree, some_float}
-use Rattle.image_file.specs.File.{Picture}
 use Rattle.plain_tree.specs.Description.{Description}
-use Rattle.plain_tools.specs.Assembly.{Assembles, FailsAt, is_fit}
+use Rattle.plain_tools.specs.Assembly.{is_fit}
 use Rattle.plain_tools.specs.Machine.{RunOutcome, Runs, beginning}
 use Rattle.plain_tools.specs.PlainText.{lines}
 use Rattle.plain_tools.proofs.HasOutcome.{has_outcome}
 use Rattle.plain_tools.proofs.Determined.{not_neither}
-use Rattle.nml_suite.specs.Coming.{EndsWith, Opens, Short, Opened, Accepts, Faulty, Accepted, Simplifies, Other, Plain, AssemblesTo, NotPlain, NoMatch, Words, Loads, NoImage, Loaded, RunsTo, Input, Ran, IsImageOf, ComesTo, first_input, made}
+use Rattle.nml_suite.specs.Coming.{EndsWith, Opens, Short, Opened, Accepts, Faulty, Accepted, Simplifies, Other, Plain, AssemblesTo, NotPlain, NoMatch, Words, Loads, NoImage, Loaded, RunsTo, Input, Ran, ComesTo, first_input, made}
 use Rattle.nml_suite.specs.Complete.{Answering, AllAnswer, AreAnswered, ComesOut}
-use Rattle.nml_suite.specs.Described.{IsAccepted, IsBuilt, HasFault}
+use Rattle.nml_suite.specs.Described.{IsBuilt}
 use Rattle.nml_suite.specs.Form.{Form, Check, Asm, Dis, Run, Cc, Ceval, Demo}
 use Rattle.nml_suite.specs.Reading.{Reading, Got, Absent, Failed, TooLong, Unread, Asked}
 use Rattle.nml_suite.specs.Reply.{Reply, told_run}

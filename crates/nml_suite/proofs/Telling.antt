@@ -1,7 +1,6 @@
 -- What a sink took of a text, and how the call ends.
-use Rattle.std.proofs.Common.{◌≡◌, ℕ, ◌≤◌, List, Option, Result, Ok, Err, sym, subst, ◌∙◌, arith, inl, inr}
+use Rattle.std.proofs.Common.{◌≡◌, ℕ, List, Option, Result, Ok, Err, sym, subst, ◌∙◌, arith, inl, inr}
 use Rattle.std.specs.Prelude.{OnOk, OnErr}
-use Rattle.nk_outside.specs.Count.{Rose}
 use Rattle.nk_outside.specs.Taken.{Took, TookFront}
 use Rattle.nk_outside.specs.declared.files.WriteFault.{WriteFault}
 use Rattle.nk_outside.specs.declared.files.WriteFault.TheVariants as faults

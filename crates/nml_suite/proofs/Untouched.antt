@@ -1,15 +1,15 @@
 -- What becomes of the files in a call of the top call.
-use Rattle.std.proofs.Common.{◌≡◌, ◌⊎◌, ◌≤◌, ◌+◌, ℕ, List, [], ◌∷◌, Option, Some, None, length, refl, sym, ap, ◌∙◌, subst, inl, inr, arith}
+use Rattle.std.proofs.Common.{◌≡◌, ◌⊎◌, ◌≤◌, ℕ, List, [], ◌∷◌, Option, Some, None, length, refl, ap, ◌∙◌, subst, inl, inr, arith}
 use Rattle.nk_outside.specs.Count.{Rose}
 use Rattle.nml_suite.specs.Answer.{Moment, Answers, AreNamed}
 use Rattle.nml_suite.specs.Coming.{ComesTo}
-use Rattle.nml_suite.specs.Files.{KeepsFiles, HasDefined, HasWork, Leaves, IsRefusal, LeavesOthers, CallsOnce, HaveCauses}
+use Rattle.nml_suite.specs.Files.{KeepsFiles, HasDefined, HasWork, Leaves, IsRefusal, LeavesOthers, CallsOnce}
 use Rattle.nml_suite.specs.Form.{Form, named_to_read, named_to_write}
 use Rattle.nml_suite.specs.Reading.{Store, Asked}
 use Rattle.nml_suite.specs.Reply.{Reply, starved}
 use Rattle.nml_suite.specs.Told.{Told, Whole, Cut, CutStarved}
 use Rattle.nml_suite.specs.Told as told
-use Rattle.nml_suite.specs.Work.{Work, Written, telling, IsSaved, Filed, Kept, Failed, Starved}
+use Rattle.nml_suite.specs.Work.{Work, Written, telling, Filed, Kept, Failed, Starved}
 use Rattle.nml_suite.specs.declared.status.Status.{Status}
 use Rattle.nml_suite.specs.declared.status.Status.TheVariants as statuses
 use Rattle.nml_suite.proofs.Chain.{sound}

@@ -1,10 +1,9 @@
 -- When each answer comes, and what was told with it.
-use Rattle.std.specs.Prelude.{◌≡◌, ◌⊎◌, ℕ, suc, ◌+◌, ◌≤◌, List, [], ◌++◌, Option, Some, None, codes, slice_get, IsTrue, IsFalse}
+use Rattle.std.specs.Prelude.{◌≡◌, ◌⊎◌, ℕ, suc, ◌+◌, ◌≤◌, List, Option, Some, None, slice_get, IsTrue, IsFalse}
 use Rattle.nk_outside.specs.Count.{Rose}
 use Rattle.nk_outside.specs.Held.{Reads, Lacks, IsTooLong}
 use Rattle.nk_outside.specs.Taken.{Took}
 use Rattle.plain_tree.specs.Description.{Description}
-use Rattle.plain_tree.specs.IsPlain.{word_width}
 use Rattle.nml_tree.specs.declared.tree.Desc.{Desc}
 use Rattle.nml_tree.specs.declared.fault.DescFault.{DescFault}
 use Rattle.image_file.specs.File.{Picture}
@@ -20,7 +19,6 @@ use Rattle.nml_suite.specs.Form.{Form, Check, Asm, Dis, Run, Cc, Ceval, Demo, na
 use Rattle.nml_suite.specs.Reading.{Reading, Absent, Failed, TooLong}
 use Rattle.nml_suite.specs.Reply.{usage_line, unread, description_fault, not_built, not_built_file, no_match, bad_input, told_run}
 use Rattle.nml_suite.specs.Told.{EndsIn}
-use Rattle.nml_suite.specs.Work.{Work}
 use Rattle.nml_suite.specs.declared.purpose.Purpose.{Purpose}
 use Rattle.nml_suite.specs.declared.purpose.Purpose.TheVariants as purposes
 use Rattle.nml_suite.specs.declared.status.Status.{Status}

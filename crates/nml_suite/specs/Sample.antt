@@ -193,5 +193,5 @@ first_row : (bytes : List ℕ) (tree : Desc) → IsAccepted bytes tree → IsPla
 unfolding digits
 first_row bytes tree accepted plain =
     Opened bytes _ refl
-        (Accepted tree accepted
-        (Plain sample.running_machine (record { plain = plain; built = refl }) (Opened text _ refl (Words refl row_words row_assembles refl refl))))
+    (Accepted tree accepted
+    (Plain sample.running_machine (record { plain = plain; built = refl }) (Opened text _ refl (Words refl row_words row_assembles refl refl))))

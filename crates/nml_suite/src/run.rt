@@ -13,9 +13,9 @@ use crate::Status;
 use crate::ready::Ready;
 use crate::stop::Stop;
 use crate::tell::{ended, put};
-use plain_tools::{PlainSim, Step};
 use nk_base::dec_into;
 use nk_outside::{Sink, WriteFault};
+use plain_tools::{PlainSim, Step};
 use std::alloc::Global;
 
 /// Room for a line of a run: none is longer.
@@ -104,11 +104,7 @@ fn stop_of(step: Step) -> Option<Stop>
 }
 
 /// Puts the line of an output, where there is one.
-fn put_output<S: Sink>(
-    alloc: Global,
-    sink: &mut S,
-    out: Option<i64>,
-) -> Result<(), WriteFault>
+fn put_output<S: Sink>(alloc: Global, sink: &mut S, out: Option<i64>) -> Result<(), WriteFault>
     ensures ok { OnOk result (Took (S.taken sink.old) (S.taken sink.new) (output_text out)) }
     ensures err { OnErr result (TookFront (S.taken sink.old) (S.taken sink.new) (output_text out)) }
     ensures counts { CountsPuts (S.faults sink.old) (S.faults sink.new) result }
@@ -120,11 +116,7 @@ fn put_output<S: Sink>(
 }
 
 /// Puts the line that tells how a run stopped.
-fn put_stop<S: Sink>(
-    alloc: Global,
-    sink: &mut S,
-    stop: Stop,
-) -> Result<(), WriteFault>
+fn put_stop<S: Sink>(alloc: Global, sink: &mut S, stop: Stop) -> Result<(), WriteFault>
     ensures ok { OnOk result (Took (S.taken sink.old) (S.taken sink.new) (stop_line (spec.stop_of stop))) }
     ensures err { OnErr result (TookFront (S.taken sink.old) (S.taken sink.new) (stop_line (spec.stop_of stop))) }
     ensures counts { CountsPuts (S.faults sink.old) (S.faults sink.new) result }

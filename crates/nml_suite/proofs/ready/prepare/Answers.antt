@@ -1,8 +1,6 @@
-use Rattle.std.proofs.Common.{◌∷◌, []}
 use Rattle.std.proofs.lemmas.Result.{err_from_is_err_and}
 use Rattle.plain_tree.specs.Description.{description_of}
 use Rattle.nml_suite.proofs.Arriving.{arrived, both, opened, not_opened, described, not_described, loaded, not_loaded, blank, not_blank}
-use Rattle.nml_suite.specs.declared.purpose.Purpose.TheVariants as purposes
 use Rattle.nml_suite.proofs.ready.prepare.Goals as goal
 
 pub returns-in_err-bytes : goal.returns-in_err-bytes
