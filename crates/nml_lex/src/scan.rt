@@ -41,7 +41,7 @@ pub fn lex(alloc: Global, bytes: &[u8]) -> Result<Tokens<'_>, DescFault>
         let at = (bytes.len() - rest.len()) as u32;
         let (text, behind) = rest.split_at(token_length(rest));
         if text.is_empty() || !is_within(text) {
-            return Err(DescFault::Lex { at });
+            return Err(DescFault::Lex { at: u64::from(at) });
         }
         list.push(Token { at, text })?;
         rest = behind;

@@ -31,7 +31,7 @@ pub fn read(alloc: Global, bytes: &[u8]) -> Result<Desc, DescFault>
         Ok(items) => without_float(Desc { items }),
         Err(Stop::Stuck(left)) => {
             let at = place_before(&signs, left, bytes.len() as u32);
-            Err(DescFault::Syntax { at })
+            Err(DescFault::Syntax { at: u64::from(at) })
         }
         Err(Stop::Memory) => Err(DescFault::Memory),
     }
@@ -79,7 +79,7 @@ fn without_float(desc: Desc) -> Result<Desc, DescFault>
     ensures { MatchResult result (λ d. (d ≡ desc) × (float_places d ≡ [])) (λ fault. HasFloatFault desc fault) }
 {
     match first_float(&desc) {
-        Some(at) => Err(DescFault::Float { at }),
+        Some(at) => Err(DescFault::Float { at: u64::from(at) }),
         None => Ok(desc),
     }
 }

@@ -72,7 +72,7 @@ pub fn push_fault(alloc: Global, line: &mut Text, fault: &DescFault) -> Result<(
 }
 
 /// Appends a text and a number.
-fn push_number(alloc: Global, line: &mut Text, before: &[u8], number: u32) -> Result<(), Memory>
+fn push_number(alloc: Global, line: &mut Text, before: &[u8], number: u64) -> Result<(), Memory>
     ensures { OnOk result (line.new ≡ line.old ++ (before.now ++ decimal number)) }
 {
     line.push_bytes(before)?;
@@ -125,9 +125,9 @@ fn push_shapes(
 ) -> Result<(), Memory>
     ensures { OnOk result (line.new ≡ line.old ++ spec.fault_text (DescFault.Shapes count nodes size)) }
 {
-    push_number(alloc, line, b"N12 Shapes ", count)?;
-    push_number(alloc, line, b" ", nodes)?;
-    push_number(alloc, line, b" ", size)
+    push_number(alloc, line, b"N12 Shapes ", u64::from(count))?;
+    push_number(alloc, line, b" ", u64::from(nodes))?;
+    push_number(alloc, line, b" ", u64::from(size))
 }
 
 /// Appends the fault that two instructions have one image.

@@ -17,22 +17,22 @@ pub enum Root {
 #[derive(Debug, Drop)]
 pub enum DescFault {
     /// N1: the byte at this place begins no token, or its token is over its limit.
-    Lex { at: u32 },
+    Lex { at: u64 },
     /// N2: no description has these tokens, and none has tokens that begin with those up to this place; the length of the bytes, where
     /// they end too early.
-    Syntax { at: u32 },
+    Syntax { at: u64 },
     /// N3: the first type `float` stands at this place.
-    Float { at: u32 },
+    Float { at: u64 },
     /// N4: the name at this place is unknown, or was declared before, or is `PC` or `instruction` and declared as something else than
     /// a register or a rule.
-    Name { at: u32 },
+    Name { at: u64 },
     /// N5: this rule reaches itself through its alternatives or its parameters.
     Cycle { rule: Text },
     /// N6: what stands at this place has not the kind or the size that its place asks for: a size, a type, an alternative, an operand,
     /// a shift amount, a string, or a name that is used as what it isn't.
-    TypeFault { at: u32 },
+    TypeFault { at: u64 },
     /// N7: the index or expression that begins at this place can be too wide or too large, or the storage named there has too many cells.
-    Width { at: u32 },
+    Width { at: u64 },
     /// N8: the rule's image or syntax doesn't name this parameter exactly once, or its action takes the parameter's action more than once.
     Linear { rule: Text, param: Text },
     /// N9: the images of this rule's alternatives differ in width, or it is `instruction` and its width isn't 8 to 64.

@@ -6,6 +6,7 @@ use Rattle.nml_read.specs.ReadingItems.{item_list}
 use Rattle.nml_read.specs.Seen.{seen, Fails}
 use Rattle.nml_read.specs.Trees.{first_place}
 use Rattle.nml_read.proofs.ReadBytes.{sound_tokens, is_tree, without_float, has_no_tree}
+use Rattle.nml_read.specs.Trees.{HasNoTree}
 use Rattle.nml_read.proofs.description.read.Goals as goal
 
 pub signs-requires : goal.signs-requires
@@ -21,8 +22,9 @@ pub returns-in-Err-Stuck : goal.returns-in-Err-Stuck
 returns-in-Err-Stuck c =
     let has : HasPieces c.args.bytes.now (map piece_of c.deref.result.now) = subst (λ ts. HasPieces c.args.bytes.now (map piece_of ts)) (sym c.deref.ensures.value) c.in_ok-tokens.ensures in
     let same : c.deref-in-Err-Stuck.result.now ≡ c.deref-2.result.now = c.deref-in-Err-Stuck.ensures.value ∙ sym c.deref-2.ensures.value in
-    has_no_tree c.args.bytes.now (map piece_of c.deref.result.now) (map seen c.deref-2.result.now) c.in-Err-Stuck.left c.place_before-at.result has (ap (map seen) c.deref-2.ensures.value ∙ c.in_ok-signs.ensures)
+    subst (HasNoTree c.args.bytes.now) (sym c.from.ensures)
+    (has_no_tree c.args.bytes.now (map piece_of c.deref.result.now) (map seen c.deref-2.result.now) c.in-Err-Stuck.left c.place_before-at.result has (ap (map seen) c.deref-2.ensures.value ∙ c.in_ok-signs.ensures)
     (subst (λ e. Fails e item_list (map seen c.deref-2.result.now)) c.in-Err-Stuck.field-0-is c.in-Err-Stuck.ensures)
     (c.place_before-at.ensures
     ∙ ap (λ xs. first_place (length c.args.bytes.now) (drop (length xs - c.in-Err-Stuck.left) (map seen xs))) same
-    ∙ ap (λ n. first_place (length c.args.bytes.now) (drop (n - c.in-Err-Stuck.left) (map seen c.deref-2.result.now))) (sym (length-map c.deref-2.result.now seen)))
+    ∙ ap (λ n. first_place (length c.args.bytes.now) (drop (n - c.in-Err-Stuck.left) (map seen c.deref-2.result.now))) (sym (length-map c.deref-2.result.now seen))))
