@@ -14,8 +14,6 @@ mod run;
 mod status;
 mod stop;
 mod tell;
-#[cfg(test)]
-mod tests;
 mod top;
 
 pub use arguments::{tell_memory, words_of};
