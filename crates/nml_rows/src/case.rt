@@ -19,8 +19,8 @@ pub struct Case {
     /// The files as they are to be.
     pub wanted: Machine,
     /// The numbers of the calls of files and of the puts that fail in the next call.
-    pub fail_calls: Vec<u64>,
-    pub fail_puts: Vec<u64>,
+    fail_calls: Vec<u64>,
+    fail_puts: Vec<u64>,
     /// The last call, whose wants may still come.
     pub call: Option<Call>,
     /// What wasn't as wanted so far.
@@ -39,11 +39,11 @@ pub struct Call {
     /// The number of its status.
     status: u8,
     /// The text that is wanted.
-    pub wanted_text: Vec<u8>,
+    wanted_text: Vec<u8>,
     /// The status that is wanted.
-    pub wanted_status: u64,
+    wanted_status: u64,
     /// How many calls of files are wanted, where that is told.
-    pub wanted_calls: Option<u64>,
+    wanted_calls: Option<u64>,
 }
 
 impl Case {
@@ -135,8 +135,16 @@ impl Case {
         Ok(())
     }
 
+    /// Ends the case. One without a call, or with nothing behind its last `fail`, isn't as wanted.
+    pub fn end(&mut self, alloc: Global) -> Result<(), Memory> {
+        if self.call.is_none() {
+            self.told.push_bytes(b"  there is no call at its end\n")?;
+        }
+        self.settle(alloc)
+    }
+
     /// Compares the last call with what is wanted of it.
-    pub fn settle(&mut self, alloc: Global) -> Result<(), Memory> {
+    fn settle(&mut self, alloc: Global) -> Result<(), Memory> {
         if let Some(call) = self.call.take() {
             let mut told = Text::new(alloc);
             tell_number(

@@ -181,7 +181,7 @@ impl Stage {
         let Some(mut case) = self.case.take() else {
             return Ok(());
         };
-        case.settle(self.alloc)?;
+        case.end(self.alloc)?;
         if case.told.as_bytes().is_empty() {
             self.passed = self.passed.saturating_add(1);
             self.told.push_bytes(b"ok ")?;

@@ -1,0 +1,11 @@
+//! Tests of calls that no transcript reaches.
+#![tactic(auto)]
+
+#[cfg(test)]
+mod images;
+#[cfg(test)]
+mod machines;
+#[cfg(test)]
+mod outside;
+#[cfg(test)]
+mod reader;
