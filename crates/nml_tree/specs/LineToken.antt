@@ -5,6 +5,7 @@ use Rattle.std.specs.List.{prefix_len}
 use Rattle.std.specs.Str.Parse.{digits_value}
 use Rattle.nk_base.specs.Byte.{is_name_start, is_blank}
 
+-- a token of a line
 pub data LineToken : Type 0 where
   Word : List ℕ → LineToken  -- the longest run of letters and `_`
   Number : ℤ → LineToken  -- the longest run of digits, with a `-` that touches it on the left as its sign

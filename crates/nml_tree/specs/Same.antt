@@ -11,6 +11,7 @@ use Rattle.nml_tree.specs.Value.{number_at}
 use Rattle.nml_tree.specs.Valid.{IsRoot}
 use Rattle.nml_tree.specs.Shapes.{comes_before}
 
+-- the tokens of the text of a derivation
 abbrev pub tokens : Derivation → List LineToken
 tokens d = line_tokens (syntax_of d)
 
@@ -25,6 +26,7 @@ pub record AreAlike (t : Table) {A : Type 0} (attribute : Derivation → A) (a b
 abbrev pub SameImage : Table → Derivation → Derivation → Type 0
 SameImage t a b = AreAlike t image a b
 
+-- two with one list of tokens
 abbrev pub SameSyntax : Table → Derivation → Derivation → Type 0
 SameSyntax t a b = AreAlike t tokens a b
 
@@ -45,6 +47,7 @@ pub record IsFirstImage (t : Table) (a b : Derivation) : Type 0 where
   pub shapes : HasFirstShapes (SameImage t) a b
   pub least : (c e : Derivation) → SameImage t c e → picks c ≡ picks a → picks e ≡ picks b → word_of a ≤ word_of c
 
+-- the numbers in the fields of the one are at most those of the other, field by field
 abbrev pub AreAtMost : Derivation → Derivation → Type 0
 AreAtMost a c = (k : ℕ) → number_at (fields a) k ≤ℤ number_at (fields c) k
 
