@@ -16,4 +16,6 @@ pub mod OneDerivation
 pub mod OneWord
 pub mod OneRun
 pub mod Height
+pub mod ByNames
+pub mod RuleWorth
 pub mod ShapeListed
