@@ -8,6 +8,7 @@ mod hexadecimal;
 mod memory;
 mod number;
 mod text;
+mod whole;
 
 pub use decimal::{dec, dec_into, number_of_digits, number_up_to};
 pub use front::{behind_prefix, digits_len};
@@ -15,3 +16,4 @@ pub use hexadecimal::push_hexadecimal;
 pub use memory::Memory;
 pub use number::{Bits, Ty, low_bits, power_of_two, wrap, wrapped_is_congruent};
 pub use text::Text;
+pub use whole::{clamp, select};

@@ -5,3 +5,17 @@ pub mod Drops
 pub mod Back
 pub mod SampleTrees
 pub mod EndedLaws
+pub mod Forth
+pub mod WalkLaws
+pub mod LeastPlace
+pub mod SampleTables
+pub mod SampleRuns
+pub mod SampleRefused
+pub mod SampleShapes
+pub mod OneDerivation
+pub mod OneWord
+pub mod OneRun
+pub mod Height
+pub mod ByNames
+pub mod RuleWorth
+pub mod ShapeListed

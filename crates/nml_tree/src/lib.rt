@@ -1,10 +1,12 @@
-//! Descriptions of processors as trees, the text of each, and why one is refused.
+//! Descriptions of processors as trees, the text of each, what it means, and why one is refused.
 #![tactic(auto)]
 
 mod attributes;
+mod deriv;
 mod expression;
 mod fault;
 mod keyword;
+pub mod laws;
 mod names;
 mod operator;
 mod spell_attrs;
@@ -14,16 +16,19 @@ mod spell_leaf;
 mod spell_stmt;
 mod statement;
 mod tree;
+mod typed;
 
 pub use attributes::{Action, Arg, Attribute, Attrs, Template};
+pub use deriv::Deriv;
 pub use expression::Expr;
 pub use fault::{DescFault, Root};
 pub use keyword::is_keyword;
 pub use names::{Name, Number, Quoted};
-pub use operator::Bin;
+pub use operator::{Bin, Un};
 pub use spell_item::spell;
 pub use statement::{Place, Stmt};
 pub use tree::{
     Desc, Item, ModeRule, OpRule, OrRule, Par, Pars, Port, PortWord, RuleWord, Size, Storage,
     StorageWord, TypeExpr,
 };
+pub use typed::{Checked, Typed};
