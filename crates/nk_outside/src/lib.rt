@@ -1,4 +1,4 @@
-//! The outside: files and a sink, each with a written meaning, and what stands for them.
+//! The outside: files and a sink, each with a written meaning, and what stands for them; and how a run of a program ends.
 #![tactic(auto)]
 
 mod files;
@@ -8,6 +8,7 @@ mod never_fails;
 mod os_files;
 mod os_sink;
 mod sink;
+mod stop;
 #[cfg(test)]
 mod tests;
 
@@ -18,3 +19,4 @@ pub use never_fails::NeverFails;
 pub use os_files::OsFiles;
 pub use os_sink::OsSink;
 pub use sink::Sink;
+pub use stop::{EvalFault, Stop};
