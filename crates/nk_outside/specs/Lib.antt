@@ -3,4 +3,7 @@ pub mod Handed
 pub mod Held
 pub mod Memory
 pub mod Taken
+pub mod Outcome
+pub mod Agree
 pub mod Sample
+pub mod OutcomeSample

@@ -1,4 +1,4 @@
-//! The outside: files and a sink, each with a written meaning, and what stands for them.
+//! The outside: files and a sink, each with a written meaning, and what stands for them; and how a run of a program ends.
 #![tactic(auto)]
 
 mod files;
@@ -8,6 +8,7 @@ mod never_fails;
 mod os_files;
 mod os_sink;
 mod sink;
+mod stop;
 
 pub use files::{FILE_LIMIT, Files, ReadFault, WriteFault};
 pub use mem_files::MemFiles;
@@ -16,3 +17,4 @@ pub use never_fails::NeverFails;
 pub use os_files::OsFiles;
 pub use os_sink::OsSink;
 pub use sink::Sink;
+pub use stop::{EvalFault, Stop};
