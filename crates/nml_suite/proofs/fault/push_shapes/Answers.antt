@@ -9,5 +9,5 @@ returns c =
     let nodes = (count ++ codes " ") ++ decimal c.args.nodes in
     on_ok _ _ c.push_number-3.result
     (λ e. behind c.args.line.now nodes (codes " ") (decimal c.args.size) _ _
-    (behind c.args.line.now count (codes " ") (decimal c.args.nodes) _ _ c.in_ok-push_number.ensures c.in_ok-push_number-2.ensures) e)
-    c.push_number-3.ensures
+    (behind c.args.line.now count (codes " ") (decimal c.args.nodes) _ _ (rw c.from.ensures at c.in_ok-push_number.ensures) (rw c.from-2.ensures at c.in_ok-push_number-2.ensures)) e)
+    (rw c.from-3.ensures at c.push_number-3.ensures)
