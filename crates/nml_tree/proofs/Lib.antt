@@ -15,3 +15,4 @@ pub mod OneDerivation
 pub mod Height
 pub mod ByNames
 pub mod RuleWorth
+pub mod ImageWidths
