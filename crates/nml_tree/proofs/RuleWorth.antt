@@ -1,5 +1,5 @@
 -- What a rule is worth, from what the rules below it are worth.
-use Rattle.std.proofs.Common.{ℕ, zero, suc, ◌≡◌, refl, ap, Bool, true, false, List, [], ◌∷◌, map, length, Option, Some, None, Contains, arith}
+use Rattle.std.proofs.Common.{suc, ◌≡◌, refl, ap, Bool, true, false, List, [], ◌∷◌, map, Option, Some, None, Contains, arith}
 use Rattle.std.specs.Prelude.{cond, filter}
 use Rattle.std.specs.Map.{lookup}
 use Rattle.nk_base.specs.Text.{text_eq}
@@ -7,7 +7,7 @@ use Rattle.nml_tree.specs.declared.tree.Par.{Par}
 use Rattle.nml_tree.specs.Formula.{Formula, Numeral, Truth, Named, Indexed, Paren, Fitted, Bits, Choose, Unary, Binary}
 use Rattle.nml_tree.specs.Table.{Text, Table, Declared, declared, Parameter, parameter_of}
 use Rattle.nml_tree.specs.Reach.{IsBelow, CycleFault}
-use Rattle.nml_tree.specs.Worth.{Worth, Scope, worth, scope, of_name, of_entry, of_parameter, of_rule, of_mode, of_value, greatest, is_rule, rule_worth, rule_worth_within, sides, of_prefix, of_binary}
+use Rattle.nml_tree.specs.Worth.{Worth, Scope, worth, scope, of_name, of_entry, of_parameter, of_rule, of_mode, of_value, greatest, is_rule, rule_worth, rule_worth_within, of_prefix}
 use Rattle.nml_tree.proofs.ByNames.{IsByNames, enough}
 
 -- a parameter is worth the same where each rule that it may be is
