@@ -19,3 +19,6 @@ pub mod Height
 pub mod ByNames
 pub mod RuleWorth
 pub mod ShapeListed
+pub mod Lookups
+pub mod StateLaws
+pub mod StateSeen
