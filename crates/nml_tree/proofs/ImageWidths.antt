@@ -9,7 +9,7 @@ use Rattle.nml_tree.specs.declared.tree.Par.{Par}
 use Rattle.nml_tree.specs.declared.attributes.Arg.{Arg}
 use Rattle.nml_tree.specs.declared.attributes.Template.{Template}
 use Rattle.nml_tree.specs.declared.attributes.Template.TheVariants as template
-use Rattle.nml_tree.specs.Attribute.{Piece, Letter, Directive, pieces, bits_below}
+use Rattle.nml_tree.specs.Attribute.{FormatPiece, Letter, Directive, pieces, bits_below}
 use Rattle.nml_tree.specs.Table.{Text, Table, Rule, Parameter, parameter_of}
 use Rattle.nml_tree.specs.Derivation.{Derivation, Arguments, Compose, NoMore, Part, Field, IsDerivation, Fill}
 use Rattle.nml_tree.specs.Template.{put_in, given, text_of}
@@ -29,7 +29,7 @@ given_width : (xs : List (Text × List Bool)) (name : Text) → length (given xs
 given_width [] name = refl
 given_width (x ∷ xs) name = chosen_width (text_eq name x.0) x.1 (lookup (text_eq name) xs) (lookup (text_eq name) (widths xs)) (given_width xs name)
 
-put_width : (ps : List Piece) (args : List (ℕ × Arg)) (xs : List (Text × List Bool))
+put_width : (ps : List FormatPiece) (args : List (ℕ × Arg)) (xs : List (Text × List Bool))
     → length (put_in bit ps (map (λ (comma, a). given xs a.name.text) args)) ≡ pieces_width ps (map (λ (comma, a). width_given (widths xs) a.name.text) args)
 put_width [] args xs = refl
 put_width (Letter c ∷ ps) args xs = omega (arith, put_width ps args xs)

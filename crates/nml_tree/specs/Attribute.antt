@@ -5,18 +5,18 @@ use Rattle.nk_base.specs.declared.number.Ty.{Ty}
 use Rattle.nk_base.specs.Number.{low_bits, width_of}
 
 -- a character of a string, or a directive: the digits behind its `%`, and its letter
-pub data Piece : Type 0 where
-  Letter : ℕ → Piece
-  Directive : (digits : List ℕ) → (letter : ℕ) → Piece
+pub data FormatPiece : Type 0 where
+  Letter : ℕ → FormatPiece
+  Directive : (digits : List ℕ) → (letter : ℕ) → FormatPiece
 
 abbrev mutual
   -- the pieces of a string; `%` is 37
-  pub pieces : List ℕ → List Piece
+  pub pieces : List ℕ → List FormatPiece
   pieces [] = []
   pieces (c ∷ cs) = if c == 37 then directive_behind [] cs else Letter c ∷ pieces cs
 
   -- a directive behind its `%` and these digits; at the string's end it is the character `%`
-  pub directive_behind : List ℕ → List ℕ → List Piece
+  pub directive_behind : List ℕ → List ℕ → List FormatPiece
   directive_behind digits [] = Letter 37 ∷ []
   directive_behind digits (c ∷ cs) =
       if is_ascii_digit c then directive_behind (digits ++ c ∷ []) cs else Directive digits c ∷ pieces cs

@@ -5,11 +5,11 @@ use Rattle.nk_base.specs.Text.{text_eq}
 use Rattle.nk_base.specs.Number.{width_of}
 use Rattle.nml_tree.specs.declared.attributes.Template.{Template}
 use Rattle.nml_tree.specs.declared.attributes.Template.TheVariants as template
-use Rattle.nml_tree.specs.Attribute.{Piece, Letter, Directive, pieces}
+use Rattle.nml_tree.specs.Attribute.{FormatPiece, Letter, Directive, pieces}
 use Rattle.nml_tree.specs.Table.{Text, Table, Rule, Parameter, parameter_of}
 
 -- a character is one bit, and each directive takes the next argument
-abbrev pub pieces_width : List Piece → List ℕ → ℕ
+abbrev pub pieces_width : List FormatPiece → List ℕ → ℕ
 pieces_width [] ws = 0
 pieces_width (Letter c ∷ ps) ws = 1 + pieces_width ps ws
 pieces_width (Directive digits k ∷ ps) [] = pieces_width ps []
