@@ -47,9 +47,11 @@ fn push_inits(bytes: &mut Vec<u8>, inits: &[DataCell]) -> Result<(), Memory>
     Ok(())
 }
 
-/// The bytes of the image's file, version 1.
+/// The bytes of the image's file, version 1: the letters `NMLI`, the version, the width, the digest, how many words there are and the
+/// words, how many data cells there are and the cells; each number with its highest byte first.
 ///
-/// The form is this project's own. The one error is want of memory.
+/// The image has a width from 8 to 64, words below 2^width, at most 65,536, and fewer than 2^32 data cells. The form is this project's own.
+/// The one error is want of memory.
 pub fn write(alloc: Global, i: &Image) -> Result<Vec<u8>, Memory>
     requires { HasFile (picture_of i.now) }
     ensures { IfOk result (λ v. v.items ≡ file (picture_of i.now)) }

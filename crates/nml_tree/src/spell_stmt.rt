@@ -1,12 +1,10 @@
 //! The texts of statements.
 
-ghost use Rattle.std.specs.Prelude.{◌≡◌, ◌∷◌, [], ◌++◌, OnOk};
+ghost use Rattle.std.specs.Prelude.{◌≡◌, ◌++◌, OnOk};
 ghost use Rattle.nml_tree.specs.Block.{Block, block, index, stmt};
-ghost use Rattle.nml_tree.specs.Formula.{formula};
-ghost use Rattle.nml_tree.specs.Spell.{name_spelling, formula_spelling, index_spelling, block_spelling};
+ghost use Rattle.nml_tree.specs.Spell.{name_spelling, index_spelling, block_spelling};
 ghost use Rattle.nml_tree.specs.Ended.{ended};
 
-use crate::expression::Expr;
 use crate::spell_expr::push_between;
 use crate::spell_leaf::{push_name, push_word};
 use crate::statement::{Place, Stmt};

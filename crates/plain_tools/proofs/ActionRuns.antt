@@ -21,7 +21,7 @@ use Rattle.plain_tree.specs.declared.rules.Plain.{Plain}
 use Rattle.plain_tree.specs.declared.rules.PlainRule.{PlainRule}
 use Rattle.plain_tree.specs.declared.rules.PlainStmt.{PlainStmt}
 use Rattle.plain_tree.specs.declared.rules.PlainStmt.TheVariants as stmt
-use Rattle.plain_tree.specs.declared.state.Exec.TheVariants as execs
+use Rattle.plain_tools.specs.declared.state.Exec.TheVariants as execs
 use Rattle.plain_tools.specs.Read.{agrees}
 use Rattle.plain_tools.specs.Doing.{AreMissed, IsMissed, AreRules, IsFound, IsAdded, numbers_of}
 use Rattle.plain_tools.specs.Running.{IsRuleFor, finished}

@@ -9,7 +9,7 @@ use Rattle.plain_tree.specs.Description.{Rule, Description}
 use Rattle.plain_tree.specs.Effect.{new_cells, IsWordOf}
 use Rattle.plain_tree.specs.Instruction.{Derivation}
 use Rattle.plain_tree.specs.IsPlain.{IsPlain, IsRule, bits_in, image_width, word_width}
-use Rattle.plain_tree.specs.declared.state.Exec.TheVariants as execs
+use Rattle.plain_tools.specs.declared.state.Exec.TheVariants as execs
 use Rattle.plain_tools.specs.Read.{agrees, numbers_in}
 use Rattle.plain_tools.specs.Doing.{IsMissed}
 use Rattle.plain_tools.specs.Ran.{IsNoWord, HasExecuted, effect_of}

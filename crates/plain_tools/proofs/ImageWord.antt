@@ -1,10 +1,9 @@
 -- The word of an image, as the code computes it.
-use Rattle.std.proofs.Common.{◌≡◌, ℕ, suc, zero, ◌+◌, ◌*◌, ◌/◌, ◌%◌, ◌^◌, ◌<◌, ◌≤◌, Bool, true, false, ◌&&◌, ◌||◌, ◌==◌, if◌then◌else◌, ℤ, pos, negsuc, List, [], ◌∷◌, ◌++◌, length, drop, get_or, refl, sym, ap, ap₂, ◌∙◌, subst, arith, unsigned_abs, true≢false, eqb-true, pow_mono, drop_of_length-le, to_z, length-append, pow_pos, pow-add, pow-suc, one-add, mod-eq_of_lt, add-mul, mul_assoc, mul_comm, mul-le-mul_right, le_trans, mul-le-mul_left}
+use Rattle.std.proofs.Common.{◌≡◌, ℕ, suc, zero, ◌+◌, ◌*◌, ◌/◌, ◌%◌, ◌^◌, ◌<◌, ◌≤◌, Bool, true, false, ◌&&◌, ◌||◌, ◌==◌, if◌then◌else◌, ℤ, pos, negsuc, List, [], ◌∷◌, ◌++◌, length, drop, get_or, refl, sym, ap, ap₂, ◌∙◌, subst, arith, unsigned_abs, true≢false, eqb-true, pow_mono, drop_of_length-le, length-append, pow_pos, pow-add, pow-suc, one-add, mod-eq_of_lt, add-mul, mul_assoc, mul_comm, mul-le-mul_right, le_trans, mul-le-mul_left}
 use Rattle.std.specs.Char.{is_ascii_digit}
-use Rattle.std.specs.Int.{w128}
 use Rattle.std.proofs.lemmas.Int.{ints}
 use Rattle.std.proofs.lemmas.List.{get_or_default}
-use Rattle.std.proofs.lemmas.Nat.{pow_below, one_shl, mod-pow-add}
+use Rattle.std.proofs.lemmas.Nat.{mod-pow-add}
 use Rattle.std.proofs.lemmas.Bool.Decides.{nat_tests}
 use Rattle.std.specs.Str.Parse.{digits_value}
 use Rattle.nk_base.specs.Number.{low_bits, width_of}

@@ -10,6 +10,7 @@ pub mod MatchSteps
 pub mod FirstParts
 pub mod Lookup
 pub mod AssembledWords
+pub mod Room
 pub mod Bits
 pub mod ImageBits
 pub mod OneDerivation

@@ -6,7 +6,7 @@ use Rattle.std.specs.List.{prefix_len}
 use Rattle.std.proofs.lemmas.Bool.{lt-ltb, false≢true}
 use Rattle.std.proofs.lemmas.Bool.Decides.{nat_tests}
 use Rattle.nk_base.specs.Byte.{is_name_start, is_blank}
-use Rattle.plain_tree.specs.LineToken.{LineToken, Begun, begun, tokens_behind, line_tokens}
+use Rattle.plain_tree.specs.LineToken.{Begun, begun, tokens_behind, line_tokens}
 use Rattle.plain_tools.specs.Assembly.{instruction_lines}
 use Rattle.plain_tools.specs.FirstLine.{IsFirstLine}
 use Rattle.plain_tools.specs.Fronts.{begins_with, IsFront}

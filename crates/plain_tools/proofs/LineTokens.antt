@@ -9,6 +9,7 @@ use Rattle.std.proofs.lemmas.Bool.Decides.{nat_tests}
 use Rattle.std.proofs.lemmas.Int.Digits.{digits_value-lt}
 use Rattle.std.proofs.Math.Nat.{pow-le-pow_right}
 use Rattle.nk_base.specs.Byte.{is_name_start, is_name_byte, is_blank}
+use Rattle.nk_base.proofs.DigitsValue.{digit_is_no_name_start}
 use Rattle.plain_tree.specs.LineToken.{LineToken, Word, Number, begun, number_in_front, tokens_behind, line_tokens}
 use Rattle.plain_tools.specs.PlainText.{is_line_byte, begins_with_digit, is_signed_well, has_short_runs, is_plain_line}
 use Rattle.plain_tools.specs.Fronts.{begins_with, IsFront, IsNumberAt, IsNext}
@@ -64,16 +65,13 @@ skipped [] (c ∷ cs) = refl
 skipped (c ∷ cs) rest = skipped cs rest
 
 -- what a byte begins, by its kind
-digit_is_no_letter : (c : ℕ) → is_ascii_digit c ≡ true → is_name_start c ≡ false
-digit_is_no_letter c d = grind (arith, nat_tests)
-
 at_letter : (c : ℕ) (text : List ℕ) → is_name_start c ≡ true
     → begun c text ≡ record { token = Word (take_while is_name_start (c ∷ text)) ∷ []; more = prefix_len is_name_start text }
 at_letter c text p = rw p refl
 
 at_digit : (c : ℕ) (text : List ℕ) → is_ascii_digit c ≡ true
     → begun c text ≡ record { token = Number (pos (number_in_front (c ∷ text))) ∷ []; more = prefix_len is_ascii_digit text }
-at_digit c text p = rw (digit_is_no_letter c p, p) refl
+at_digit c text p = rw (digit_is_no_name_start c p, p) refl
 
 at_minus : (text : List ℕ) → nat_lt 0 (prefix_len is_ascii_digit text) ≡ true
     → begun 45 text ≡ record { token = Number (neg_ℤ (pos (number_in_front text))) ∷ []; more = prefix_len is_ascii_digit text }

@@ -5,8 +5,8 @@ use Rattle.std.specs.Option.{MatchOption}
 use Rattle.plain_tree.specs.Cells.{Shown}
 use Rattle.plain_tree.specs.Description.{Description}
 use Rattle.plain_tree.specs.Effect.{number_at}
-use Rattle.plain_tree.specs.declared.state.Exec.{Exec}
-use Rattle.plain_tree.specs.declared.state.Exec.TheVariants as execs
+use Rattle.plain_tools.specs.declared.state.Exec.{Exec}
+use Rattle.plain_tools.specs.declared.state.Exec.TheVariants as execs
 use Rattle.plain_tools.specs.Ran.{IsNoWord, HasExecuted}
 use Rattle.plain_tools.specs.Machine.{IsStep, ran, ByWord, BadWord}
 use Rattle.plain_tools.specs.declared.step.Step.TheVariants as steps

@@ -6,8 +6,8 @@ use Rattle.plain_tree.specs.Cells.{Shown, Kept}
 use Rattle.plain_tree.specs.Description.{Description, Rule}
 use Rattle.plain_tree.specs.Effect.{Effect, effect, new_cells, IsWordOf}
 use Rattle.plain_tree.specs.IsPlain.{IsPlain}
-use Rattle.plain_tree.specs.declared.state.Exec.{Exec}
-use Rattle.plain_tree.specs.declared.state.Exec.TheVariants as execs
+use Rattle.plain_tools.specs.declared.state.Exec.{Exec}
+use Rattle.plain_tools.specs.declared.state.Exec.TheVariants as execs
 use Rattle.plain_tools.specs.Ran.{HasExecuted, IsNoWord, effect_of}
 use Rattle.plain_tools.proofs.OneDerivation.{one_derivation}
 use Rattle.plain_tools.specs.Machine.{Machine, RunOutcome, GoesOn, Stopped, Further, Ran, ByWord, NoWord, BadWord, Follows, IsStep, Runs, StepBy, put_before, ran}

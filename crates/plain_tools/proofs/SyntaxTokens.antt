@@ -13,7 +13,7 @@ use Rattle.nk_base.specs.Text.{text_eq}
 use Rattle.plain_tree.specs.Attribute.{filled, directive}
 use Rattle.nml_tree.specs.Joined.{each_spaced, spaced}
 use Rattle.plain_tree.specs.IsPlain.{is_part, is_run_of_letters}
-use Rattle.plain_tree.specs.LineToken.{LineToken, Word, Number, line_tokens}
+use Rattle.plain_tree.specs.LineToken.{Word, Number, line_tokens}
 use Rattle.plain_tools.specs.Fronts.{begins_with, IsFront}
 use Rattle.plain_tools.proofs.LineTokens.{word, number, minus}
 use Rattle.plain_tools.specs.Template.{template}

@@ -7,6 +7,7 @@ pub mod Fronts
 pub mod FirstLine
 pub mod Template
 pub mod SampleText
+pub mod SeenWrites
 pub mod Ran
 pub mod Read
 pub mod NextPiece

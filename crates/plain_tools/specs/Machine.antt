@@ -5,7 +5,7 @@ use Rattle.plain_tree.specs.Description.{Description}
 use Rattle.plain_tree.specs.Cells.{Shown}
 use Rattle.plain_tree.specs.Effect.{number_at}
 use Rattle.plain_tools.specs.Ran.{IsNoWord, HasExecuted}
-use Rattle.plain_tree.specs.declared.state.Exec.TheVariants as execs
+use Rattle.plain_tools.specs.declared.state.Exec.TheVariants as execs
 use Rattle.plain_tools.specs.declared.step.Step.{Step}
 use Rattle.plain_tools.specs.declared.step.Step.TheVariants as steps
 

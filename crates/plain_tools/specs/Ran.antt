@@ -4,8 +4,8 @@ use Rattle.plain_tree.specs.Cells.{Shown}
 use Rattle.plain_tree.specs.Description.{Description}
 use Rattle.plain_tree.specs.Effect.{Effect, effect, new_cells, IsWordOf}
 use Rattle.plain_tree.specs.Instruction.{Derivation}
-use Rattle.plain_tree.specs.declared.state.Exec.{Exec}
-use Rattle.plain_tree.specs.declared.state.Exec.TheVariants as execs
+use Rattle.plain_tools.specs.declared.state.Exec.{Exec}
+use Rattle.plain_tools.specs.declared.state.Exec.TheVariants as execs
 
 -- no derivation has the word
 abbrev pub IsNoWord : Description → ℕ → Type 0

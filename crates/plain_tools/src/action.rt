@@ -6,8 +6,9 @@ ghost use Rattle.plain_tree.specs.Description.{description_of, field_of};
 ghost use Rattle.plain_tree.specs.Effect.{effect};
 ghost use Rattle.plain_tree.specs.IsPlain.{IsAction};
 
+use crate::state::State;
 use crate::statement::{Done, run_statement};
-use plain_tree::{Plain, PlainRule, State};
+use plain_tree::{Plain, PlainRule};
 
 /// Runs the statements of the rule's action: keeps their writes, and returns what they put out and the halt code. It takes no memory.
 pub fn run_action(p: &Plain, rule: &PlainRule, width: u32, word: u128, s: &mut State) -> Done

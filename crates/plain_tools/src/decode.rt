@@ -1,10 +1,9 @@
 //! What a word holds by the image of a rule, read with no memory.
 
-ghost use Rattle.std.specs.Prelude.{◌≡◌, ◌<◌, ◌≤◌, ◌^◌, ◌/◌, ◌%◌, ◌==◌, ℕ, [], pos, length, map, IsTrue, MatchOption};
+ghost use Rattle.std.specs.Prelude.{◌≡◌, ◌<◌, ◌≤◌, ◌^◌, ◌/◌, ◌%◌, ◌==◌, [], pos, length, map, IsTrue, MatchOption};
 ghost use Rattle.std.specs.List.{AllByRecursion};
 ghost use Rattle.plain_tools.specs.Read.{agrees, numbers_in};
 ghost use Rattle.plain_tools.specs.NextPiece.{IsStep, after_directive};
-ghost use Rattle.nk_base.specs.Number as numbers;
 ghost use Rattle.plain_tree.specs.Attribute.{pieces};
 ghost use Rattle.plain_tree.specs.Description.{field_of};
 ghost use Rattle.plain_tree.specs.Effect.{number_at};

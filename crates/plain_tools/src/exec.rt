@@ -11,8 +11,9 @@ ghost use Rattle.plain_tree.specs.IsPlain.{IsPlain, AreRegs};
 
 use crate::action::run_action;
 use crate::search::find;
+use crate::state::{Exec, State};
 use crate::statement::{register_type, wrap_field};
-use plain_tree::{Exec, Plain, PlainRule, State, word_bits};
+use plain_tree::{Plain, PlainRule, word_bits};
 
 /// Runs the instruction that the word is, and makes its writes; `None` exactly where no derivation has the word, and then the state is
 /// as before. It takes no memory.

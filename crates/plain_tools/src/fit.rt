@@ -1,6 +1,6 @@
 //! Which texts fit a description: those that are plain and have a number of PC for each word.
 
-ghost use Rattle.std.specs.Prelude.{◌≡◌, nat_lt, map, length};
+ghost use Rattle.std.specs.Prelude.{◌≡◌, map};
 ghost use Rattle.plain_tools.specs.Assembly as spec;
 ghost use Rattle.plain_tools.specs.PlainText.{lines};
 ghost use Rattle.plain_tree.specs.Description.{description_of, field_of};

@@ -1,4 +1,4 @@
-ghost use Rattle.std.specs.Prelude.{◌≡◌, ◌<◌, [], length, IfOk, None, replicate, pos, slice_get, unsigned_abs};
+ghost use Rattle.std.specs.Prelude.{◌≡◌, ◌<◌, [], length, IfOk, None, slice_get, unsigned_abs};
 ghost use Rattle.plain_tools.specs.Machine.{IsStep, beginning, ran};
 ghost use Rattle.plain_tree.specs.Description.{description_of};
 ghost use Rattle.plain_tree.specs.Effect.{AreCells, number_at};
@@ -6,9 +6,10 @@ ghost use Rattle.plain_tree.specs.IsPlain.{AreRegs, IsPlain};
 
 use crate::Step;
 use crate::exec::plain_exec;
+use crate::state::{Exec, State};
 use image_file::Image;
 use nk_base::Memory;
-use plain_tree::{Exec, Plain, State};
+use plain_tree::Plain;
 use std::alloc::Global;
 use std::marker::Model;
 

@@ -9,8 +9,9 @@ ghost use Rattle.plain_tree.specs.Effect.{effect, type_at, value_of};
 ghost use Rattle.plain_tree.specs.IsPlain.{AreRegs, IsFieldTy, IsStmt};
 
 use crate::decode::number_in;
+use crate::state::State;
 use nk_base::{Ty, low_bits, wrap};
-use plain_tree::{Plain, PlainRule, PlainStmt, PlainValue, State};
+use plain_tree::{Plain, PlainRule, PlainStmt, PlainValue};
 
 /// What was put out and whether the machine stops, by the statements so far.
 #[derive(Clone, Copy, Debug)]

@@ -1,6 +1,6 @@
 //! The word of a rule's image, with a number for each field.
 
-ghost use Rattle.std.specs.Prelude.{◌≡◌, ◌≤◌, ◌<◌, ◌+◌, ◌*◌, ◌^◌, IsTrue, length, pos, unsigned_abs, if◌then◌else◌};
+ghost use Rattle.std.specs.Prelude.{◌≡◌, ◌≤◌, ◌<◌, ◌+◌, ◌*◌, ◌^◌, IsTrue, length, unsigned_abs, if◌then◌else◌};
 ghost use Rattle.nk_base.specs.Number.{low_bits, width_of};
 ghost use Rattle.plain_tree.specs.Attribute.{pieces, image_of, number_of_bits};
 ghost use Rattle.plain_tree.specs.Description.{rule_of};

@@ -6,6 +6,5 @@ pub mod Places
 pub mod Left
 pub mod Samples
 pub mod WordWidth
-pub mod Room
 pub mod LoopEnds
 pub mod PlaceMaps

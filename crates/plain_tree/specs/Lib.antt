@@ -10,4 +10,3 @@ pub mod SamplePlain
 pub mod Checked
 pub mod Cells
 pub mod Effect
-pub mod SeenWrites

@@ -3,7 +3,7 @@ ghost use Rattle.std.specs.Prelude.{◌≡◌, ◌≤◌, ◌↔◌, map, IfOk, 
 ghost use Rattle.std.specs.List.{IsDistinct, AllByRecursion};
 ghost use Rattle.nk_base.specs.Text.{text_eq};
 ghost use Rattle.plain_tree.specs.Checked.{HasOneWidth, ArePlainRules};
-ghost use Rattle.plain_tree.specs.Description.{description_of, rule_of, field_of};
+ghost use Rattle.plain_tree.specs.Description.{description_of, rule_of};
 ghost use Rattle.plain_tree.specs.IsPlain.{IsPlain, IsRule, AreApart};
 ghost use Rattle.plain_tree.specs.IsPlain as spec;
 
@@ -14,7 +14,7 @@ use crate::check_syntax::{first_part, is_syntax};
 use crate::check_word::are_fields;
 use crate::distinct::{are_apart, are_distinct, field_names};
 use crate::image::{image_width, is_image, leading_digits};
-use crate::{Plain, PlainField, PlainRule};
+use crate::{Plain, PlainRule};
 use nk_base::Memory;
 use nml_tree::is_keyword;
 use std::alloc::Global;

@@ -36,12 +36,7 @@ fn is_action(alloc: Global, p: &Plain, rule: &PlainRule) -> Result<bool, Memory>
 fn are_stmts(p: &Plain, fields: &[PlainField], action: &[PlainStmt]) -> bool
     ensures { IsTrue result ↔ AllByRecursion (IsStmt (description_of p.now).regs (description_of p.now).out (map field_of fields.now)) action.now }
 {
-    for stmt in action {
-        if !is_stmt(p, fields, *stmt) {
-            return false;
-        }
-    }
-    true
+    action.iter().all(|stmt| is_stmt(p, fields, *stmt))
 }
 
 /// Whether a rule of these fields may have the statement.

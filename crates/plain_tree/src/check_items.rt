@@ -1,5 +1,5 @@
 //! Whether the registers and the port of a description are as a plain one has them.
-ghost use Rattle.std.specs.Prelude.{◌≡◌, ◌≤◌, ◌↔◌, map, option_map, codes, IsTrue};
+ghost use Rattle.std.specs.Prelude.{◌≡◌, ◌≤◌, ◌↔◌, map, codes, IsTrue};
 ghost use Rattle.nk_base.specs.Number.{width_of};
 ghost use Rattle.plain_tree.specs.Description.{field_of, description_of};
 ghost use Rattle.plain_tree.specs.IsPlain.{AreRegs, IsPcTy, IsPort};

@@ -1,4 +1,4 @@
-//! Plain descriptions: the plain one that a tree is, what is plain, and the state of its machine.
+//! Plain descriptions: what is plain, and the plain one that a tree is.
 #![tactic(auto)]
 
 mod check;
@@ -14,11 +14,9 @@ mod plain_action;
 mod plain_fields;
 mod plain_rule;
 mod rules;
-mod state;
 mod width;
 
 pub use check::is_plain;
 pub use from_tree::{one_plain, plain_of};
 pub use rules::{Plain, PlainField, PlainRule, PlainStmt, PlainValue};
-pub use state::{Exec, State};
 pub use width::{image_has_word_width, pc_bits, word_bits};

@@ -1,6 +1,6 @@
 //! The action of a rule, as a plain description has it.
 
-ghost use Rattle.std.specs.Prelude.{◌≡◌, ℕ, List, map, option_map, IfOk};
+ghost use Rattle.std.specs.Prelude.{◌≡◌, map, option_map, IfOk};
 ghost use Rattle.nml_tree.specs.Block.{Block, block, action_block, stmt};
 ghost use Rattle.plain_tree.specs.Description.{field_of};
 ghost use Rattle.nml_tree.specs.Formula.{formula};

@@ -1,8 +1,8 @@
 use Rattle.std.proofs.Common.{arith, length, ◌<◌, ◌≡◌, false}
 use Rattle.plain_tree.specs.Cells.{is_kept}
-use Rattle.plain_tree.specs.SeenWrites.{seen_writes}
-use Rattle.plain_tree.proofs.Room.{has_room, state_push, seen_length, seen_push}
-use Rattle.plain_tree.proofs.state.State.later.Goals as goal
+use Rattle.plain_tools.specs.SeenWrites.{seen_writes}
+use Rattle.plain_tools.proofs.Room.{has_room, state_push, seen_length, seen_push}
+use Rattle.plain_tools.proofs.state.State.later.Goals as goal
 
 pub push_reserved-requires : goal.push_reserved-requires
 push_reserved-requires c =

@@ -4,9 +4,9 @@ use Rattle.std.specs.Prelude.{eqb, ◌||◌}
 use Rattle.std.specs.List.{list_any, IsDistinct, AllByRecursion}
 use Rattle.std.proofs.lemmas.Bool.Decides.{nat_tests}
 use Rattle.std.proofs.lemmas.Map.Steps.{length-le_from_distinct_below}
-use Rattle.plain_tree.specs.declared.state.Write.{Write}
+use Rattle.plain_tools.specs.declared.state.Write.{Write}
 use Rattle.plain_tree.specs.Cells.{Kept, IsState, is_kept}
-use Rattle.plain_tree.specs.SeenWrites.{seen_writes}
+use Rattle.plain_tools.specs.SeenWrites.{seen_writes}
 
 or_left : (a b : Bool) → a || b ≡ false → (a ≡ false) × (b ≡ false)
 or_left true b h = absurd (cc)

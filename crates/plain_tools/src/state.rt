@@ -1,11 +1,11 @@
 //! The state of a machine.
 
 ghost use Rattle.std.specs.Prelude.{◌≡◌, ◌<◌, ℕ, [], ◌∷◌, ◌++◌, false, length, slice_get, slice_set, IfOk, IsTrue, replicate, pos, Some};
-ghost use Rattle.plain_tree.specs.SeenWrites.{seen_writes};
+ghost use Rattle.plain_tools.specs.SeenWrites.{seen_writes};
 ghost use Rattle.plain_tree.specs.Cells.{committed, is_kept};
 
-use crate::Plain;
 use nk_base::Memory;
+use plain_tree::Plain;
 use std::alloc::Global;
 use std::marker::Model;
 
@@ -18,7 +18,8 @@ struct Write {
 
 /// The cells of a machine, one for each storage, and the writes that are kept for the end of an instruction, at most one for each cell.
 ///
-/// It has room for one write per cell from the beginning, so no call but the one that makes it takes memory.
+/// It has room for one write per cell from the beginning, so no call but the one that makes it takes memory. That writes are kept until an
+/// instruction's end is this project's own rule.
 #[derive(Drop)]
 pub struct State {
     cells: Vec<i128>,
@@ -28,7 +29,7 @@ pub struct State {
 impl Model for State {
     ghost use Rattle.std.specs.Prelude.{List, map, vec_capacity};
     ghost use Rattle.plain_tree.specs.Cells.{Shown, IsState};
-    ghost use Rattle.plain_tree.specs.SeenWrites.{seen_writes};
+    ghost use Rattle.plain_tools.specs.SeenWrites.{seen_writes};
 
     ghost Value = { Shown };
 
