@@ -1,137 +1,25 @@
 -- What is said of readings in which each part goes on from the one before it, and of statements.
-use Rattle.std.proofs.Common.{ℕ, zero, suc, ◌≤◌, ◌<◌, le-leb, ◌-◌, Bool, false, true, if◌then◌else◌, nat_le, codes}
-use Rattle.std.proofs.Common.{List, [], ◌∷◌, ◌++◌, map, Option, Some, None, ◌≡◌, refl, sym, ◌∙◌, ap, subst, arith, Result, Ok, Err}
-use borrow.Author.Tests.{lt-leb}
+use Rattle.std.proofs.Common.{ℕ, zero, suc, ◌≤◌, ◌-◌, Bool, false, true, if◌then◌else◌, nat_le, codes, List, [], ◌∷◌, ◌++◌, map, Option, Some, None, ◌≡◌, refl, sym, ◌∙◌, ap, subst, arith}
 use Rattle.std.specs.Option.{option_map}
 use Rattle.nml_tree.specs.declared.names.Name.{Name}
 use Rattle.nml_tree.specs.declared.expression.Expr.{Expr}
 use Rattle.nml_tree.specs.declared.statement.Place.{Place}
 use Rattle.nml_tree.specs.declared.statement.Stmt.{Stmt}
-use Rattle.nml_tree.specs.declared.statement.Stmt.TheVariants as s
-use Rattle.nml_tree.specs.Symbol.{Symbol}
+use Rattle.readings.specs.Symbol.{Symbol}
 use Rattle.nml_tree.specs.Formula.{Formula, formula}
 use Rattle.nml_tree.specs.Block.{Block, Index, Done, Assign, Part, Halt, If, IfElse, chained, stmt, block, index}
 use Rattle.nml_tree.proofs.BlockLaws.{stmt-Assign, stmt-Part, stmt-Halt, stmt-If, stmt-If_else}
-use Rattle.nml_read.specs.Reading.{Read, Found, Stuck, Unread, after, behind, mark, climb, with_room}
-use Rattle.nml_read.specs.Readings.{Reading, ◌>>>◌, made, sign, optional, optional_from}
-use Rattle.nml_read.specs.ReadingStatements.{Start, start, assignment, branch_end, statement, block_from, statements}
-use Rattle.nml_read.specs.declared.stop.Stop.{Stop}
-use Rattle.nml_read.specs.declared.stop.Stop.TheVariants as stops
-use Rattle.nml_read.specs.Seen.{Comes, Fails, Says, block_of, expression_of}
+use Rattle.readings.specs.Reading.{Read, Found, Stuck, Unread, after, behind, mark, with_room}
+use Rattle.nml_grammar.specs.Reading.{climb}
+use Rattle.readings.specs.Readings.{Reading, ◌>>>◌, made, sign, optional, optional_from}
+use Rattle.nml_grammar.specs.ReadingStatements.{Start, start, assignment, branch_end, statement, block_from, statements}
+use Rattle.readings.specs.declared.stop.Stop.{Stop}
+use Rattle.readings.specs.Seen.{Comes, Fails}
+use Rattle.nml_read.specs.Seen.{block_of, expression_of}
 use Rattle.nml_read.specs.SeenStatements.{equals, ending, branches}
-use Rattle.nml_read.proofs.Saying.{alike, at_once, ends, goes_on, says_alike}
-
--- ---- equal readings
-
--- where another reading stops
-pub fails_alike : {A : Type 0} (stop : Stop) (reads other : Reading A) (ss ts : List Symbol) → ((n : ℕ) → reads n ss ≡ other n ts)
-    → Fails stop other ts → Fails stop reads ss
-fails_alike (stops.Stuck left) reads other ss ts same (rest, is, h) = (rest, is, alike other reads ts ss (Stuck rest) same h)
-fails_alike stops.Memory reads other ss ts same t = tt
-
--- ---- one behind the other
-
--- where the first stops
-pub fails_now : {A B : Type 0} (stop : Stop) (reads : Reading A) (next : ℕ → A → List Symbol → Read B) (ss : List Symbol) → Fails stop reads ss
-    → Fails stop (λ n s. after (reads n s) (next n)) ss
-fails_now (stops.Stuck left) reads next ss (rest, is, h) = (rest, is, ends next h)
-fails_now stops.Memory reads next ss t = tt
-
--- where what goes on behind the first stops
-pub fails_later : {A B : Type 0} (stop : Stop) (reads : Reading A) (next : ℕ → A → List Symbol → Read B) (ss : List Symbol) (x : A)
-    (r : List Symbol) → Comes reads ss (Found x r) → Fails stop (λ n s. next n x s) r
-    → Fails stop (λ n s. after (reads n s) (next n)) ss
-fails_later (stops.Stuck left) reads next ss x r h (rest, is, k) = (rest, is, goes_on next h k)
-fails_later stops.Memory reads next ss x r h t = tt
-
--- what goes on behind the first
-pub comes_later : {A B : Type 0} (reads : Reading A) (next : ℕ → A → List Symbol → Read B) (ss : List Symbol) (x : A) (r : List Symbol) (b : Read B)
-    → Comes reads ss (Found x r) → Comes (λ n s. next n x s) r b
-    → Comes (λ n s. after (reads n s) (next n)) ss b
-comes_later reads next ss x r b h k = goes_on next h k
-
--- ---- two, of which what goes on behind them knows both
-
--- the second of two, when the first is known
-second_alone : {A B C : Type 0} (b : Read B) (x : A) (next : A → B → List Symbol → Read C)
-    → after b (next x) ≡ after {A = A × B} (after b (λ y t. Found (x, y) t)) (λ p s. next p.0 p.1 s)
-second_alone (Found y t) x next = refl
-second_alone (Stuck t) x next = refl
-second_alone Unread x next = refl
-
--- two are read as one
-both_as_one : {A B C : Type 0} (a : Read A) (second : List Symbol → Read B) (next : A → B → List Symbol → Read C)
-    → after a (λ x s. after (second s) (next x)) ≡ after {A = A × B} (after {B = A × B} a (λ x s. after (second s) (λ y t. Found (x, y) t)))
-    (λ p s. next p.0 p.1 s)
-both_as_one (Found x s) second next = second_alone (second s) x next
-both_as_one (Stuck s) second next = refl
-both_as_one Unread second next = refl
-
--- what goes on behind two
-pub comes_both : {A B C : Type 0} (first : Reading A) (second : Reading B) (next : ℕ → A → B → List Symbol → Read C) (ss : List Symbol) (x : A)
-    (y : B) (r : List Symbol) (c : Read C)
-    → Comes (first >>> second) ss (Found (x, y) r) → Comes (λ n s. next n x y s) r c
-    → Comes (λ n s. after (first n s) (λ z t. after (second n t) (next n z))) ss c
-comes_both first second next ss x y r c h k =
-    alike (λ n s. after ((first >>> second) n s) (λ p t. next n p.0 p.1 t))
-    (λ n s. after (first n s) (λ z t. after (second n t) (next n z))) ss ss c (λ n. both_as_one (first n ss) (second n) (next n))
-    (goes_on (λ n p t. next n p.0 p.1 t) h k)
-
--- where one of two stops
-pub fails_both : {A B C : Type 0} (stop : Stop) (first : Reading A) (second : Reading B) (next : ℕ → A → B → List Symbol → Read C)
-    (ss : List Symbol) → Fails stop (first >>> second) ss
-    → Fails stop (λ n s. after (first n s) (λ z t. after (second n t) (next n z))) ss
-fails_both stop first second next ss h =
-    fails_alike stop (λ n s. after (first n s) (λ z t. after (second n t) (next n z)))
-    (λ n s. after ((first >>> second) n s) (λ p t. next n p.0 p.1 t)) ss ss (λ n. both_as_one (first n ss) (second n) (next n))
-    (fails_now stop (first >>> second) (λ n p t. next n p.0 p.1 t) ss h)
-
--- where what goes on behind two stops
-pub fails_behind_both : {A B C : Type 0} (stop : Stop) (first : Reading A) (second : Reading B) (next : ℕ → A → B → List Symbol → Read C)
-    (ss : List Symbol) (x : A) (y : B) (r : List Symbol)
-    → Comes (first >>> second) ss (Found (x, y) r) → Fails stop (λ n s. next n x y s) r
-    → Fails stop (λ n s. after (first n s) (λ z t. after (second n t) (next n z))) ss
-fails_behind_both stop first second next ss x y r h k =
-    fails_alike stop (λ n s. after (first n s) (λ z t. after (second n t) (next n z)))
-    (λ n s. after ((first >>> second) n s) (λ p t. next n p.0 p.1 t)) ss ss (λ n. both_as_one (first n ss) (second n) (next n))
-    (fails_later stop (first >>> second) (λ n p t. next n p.0 p.1 t) ss (x, y) r h k)
-
--- what is said of what goes on behind two
-pub says_behind_both : {A B C D : Type 0} (found : D → Read C) (result : Result D Stop) (first : Reading A) (second : Reading B)
-    (next : ℕ → A → B → List Symbol → Read C) (ss : List Symbol) (x : A) (y : B) (r : List Symbol)
-    → Comes (first >>> second) ss (Found (x, y) r) → Says found result (λ n s. next n x y s) r
-    → Says found result (λ n s. after (first n s) (λ z t. after (second n t) (next n z))) ss
-says_behind_both found (Ok z) first second next ss x y r h k = comes_both first second next ss x y r (found z) h k
-says_behind_both found (Err stop) first second next ss x y r h k = fails_behind_both stop first second next ss x y r h k
-
--- ---- room for a further node
-
--- there is room
-with_more : {A : Type 0} (room : ℕ) (here : List Symbol) (a : Read A) → 1 < room → with_room room here a ≡ a
-with_more room here a more = rw (lt-leb room 1 more) refl
-
--- there is none
-with_none : {A : Type 0} (room : ℕ) (here : List Symbol) (a : Read A) → room ≤ 1 → with_room room here a ≡ Stuck here
-with_none room here a none = rw (le-leb room 1 none) refl
-
--- what is read then
-pub comes_roomy : {A : Type 0} (room : ℕ) (here : List Symbol → List Symbol) (reads : Reading A) (ss : List Symbol) (a : Read A) → 1 < room
-    → Comes reads ss a → Comes (λ n s. with_room room (here s) (reads n s)) ss a
-comes_roomy room here reads ss a more h =
-    alike reads (λ n s. with_room room (here s) (reads n s)) ss ss a (λ n. with_more room (here ss) (reads n ss) more) h
-
--- where it stops
-pub fails_roomy : {A : Type 0} (stop : Stop) (room : ℕ) (here : List Symbol → List Symbol) (reads : Reading A) (ss : List Symbol) → 1 < room
-    → Fails stop reads ss → Fails stop (λ n s. with_room room (here s) (reads n s)) ss
-fails_roomy stop room here reads ss more h =
-    fails_alike stop (λ n s. with_room room (here s) (reads n s)) reads ss ss (λ n. with_more room (here ss) (reads n ss) more) h
-
--- what is said of it
-pub says_roomy : {A B : Type 0} (found : A → Read B) (result : Result A Stop) (room : ℕ) (here : List Symbol → List Symbol) (reads : Reading B)
-    (ss : List Symbol) → 1 < room → Says found result reads ss
-    → Says found result (λ n s. with_room room (here s) (reads n s)) ss
-says_roomy found result room here reads ss more h =
-    says_alike found result reads (λ n s. with_room room (here s) (reads n s)) ss ss (λ n. with_more room (here ss) (reads n ss) more) h
+use Rattle.readings.proofs.Saying.{at_once, ends, goes_on, comes_later, with_none}
+use Rattle.nml_tree.specs.declared.statement.Stmt.TheVariants as s
+use Rattle.readings.specs.declared.stop.Stop.TheVariants as stops
 
 -- the reading is stuck where a further node would begin
 pub comes_narrow : {A : Type 0} (room : ℕ) (here : List Symbol → List Symbol) (reads : Reading A) (ss : List Symbol) → room ≤ 1

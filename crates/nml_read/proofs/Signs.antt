@@ -3,13 +3,13 @@ use Rattle.std.proofs.Common.{◌≡◌, refl, sym, ◌∙◌, ap, subst, ℕ, �
 use Rattle.std.proofs.lemmas.Bool.{cond-true, cond-false}
 use Rattle.std.specs.Char.{is_ascii_digit}
 use Rattle.nk_base.specs.Byte.{is_name_start}
-use Rattle.nml_tree.specs.Symbol.{Symbol}
+use Rattle.readings.specs.Symbol.{Symbol}
 use Rattle.nml_lex.specs.Form.{is_token, is_within, is_name, is_number, is_string, is_closed, number_of}
 use Rattle.nml_lex.specs.Lexed.{Piece}
 use Rattle.nml_lex.proofs.Words.{no_name, no_number, no_string}
 use Rattle.nml_lex.proofs.Lengths.{no_other, digit_start, string_token}
 use Rattle.nml_lex.proofs.Limits.{first_byte, cut_first, number_first, number_at}
-use Rattle.nml_read.specs.Trees.{symbol, word_symbol, unquoted}
+use Rattle.nml_grammar.specs.Trees.{symbol, word_symbol, unquoted}
 
 abbrev piece : ℕ → List ℕ → Piece
 piece at text = record { at = at; text = text }

@@ -1,15 +1,15 @@
 -- Items read one after the other to the end, and what that says of the bytes.
-use Rattle.std.proofs.Common.{ℕ, zero, suc, ◌≤◌, ◌<◌, ◌==◌, Bool, true, false, List, [], ◌∷◌, ◌++◌, append_assoc, append-nil, length, map, ◌≡◌, refl, sym, ◌∙◌, ap, subst, max, arith}
+use Rattle.std.proofs.Common.{ℕ, ◌<◌, ◌==◌, Bool, true, false, List, [], ◌∷◌, ◌++◌, append_assoc, append-nil, length, map, ◌≡◌, refl, sym, ◌∙◌, ap, subst, max, arith}
 use Rattle.std.proofs.lemmas.Bool.Decides.{nat_tests}
 use Rattle.nml_tree.specs.declared.tree.Item.{Item}
-use Rattle.nml_tree.specs.Symbol.{Symbol}
-use Rattle.nml_read.specs.Reading.{Read, Found, Stuck, Unread, after}
-use Rattle.nml_read.specs.ReadingItems.{item, item_list}
-use Rattle.nml_read.specs.declared.stop.Stop.{Stop}
-use Rattle.nml_read.specs.declared.stop.Stop.TheVariants as stops
-use Rattle.nml_read.specs.declared.sign.Sign.{Sign}
-use Rattle.nml_read.specs.Seen.{seen, Comes, Fails}
-use Rattle.nml_read.proofs.Saying.{at_once}
+use Rattle.readings.specs.Symbol.{Symbol}
+use Rattle.readings.specs.Reading.{Read, Found, Stuck, Unread, after}
+use Rattle.nml_grammar.specs.ReadingItems.{item, item_list}
+use Rattle.readings.specs.declared.stop.Stop.{Stop}
+use Rattle.readings.specs.declared.sign.Sign.{Sign}
+use Rattle.readings.specs.Seen.{seen, Comes, Fails}
+use Rattle.readings.proofs.Saying.{at_once, one_more}
+use Rattle.readings.specs.declared.stop.Stop.TheVariants as stops
 
 -- what the reading comes to with these items put before those that it finds
 abbrev pub with_items : List Item → Read (List Item) → Read (List Item)
@@ -18,14 +18,6 @@ with_items found a = after a (λ xs s. Found (found ++ xs) s)
 -- whatever the rest comes to, the whole comes to, with the items found so far put before
 abbrev pub Continues : List Symbol → List Item → List Symbol → Type 0
 Continues ss found rest = (a : Read (List Item)) → Comes item_list rest a → Comes item_list ss (with_items found a)
-
--- one call more
-one_more : (ss : List Symbol) (a : Read (List Item)) → Comes (λ n s. item_list (suc n) s) ss a → Comes item_list ss a
-one_more ss a r = record { calls = suc r.calls; is = from }
-  where
-    from : (n : ℕ) → suc r.calls ≤ n → item_list n ss ≡ a
-    from zero le = elim le [ ]
-    from (suc n) le = r.is n (omega (arith, le))
 
 -- at the start
 pub continues_start : (ss : List Symbol) → Continues ss [] ss
@@ -36,7 +28,7 @@ continues_start ss Unread h = h
 -- an item in front of others
 in_front : (c : Symbol) (cs : List Symbol) (x : Item) (s : List Symbol) (a : Read (List Item)) → Comes item (c ∷ cs) (Found x s) → Comes item_list s a → Comes item_list (c ∷ cs) (with_items (x ∷ []) a)
 in_front c cs x s a h k =
-    one_more (c ∷ cs) (with_items (x ∷ []) a)
+    one_more item_list (c ∷ cs) (with_items (x ∷ []) a)
     (record {
       calls = max h.calls k.calls;
       is = λ n le. ap (λ b. after b (λ y u. after (item_list n u) (λ xs t. Found (y ∷ xs) t))) (h.is n (omega (arith, le)))
@@ -57,7 +49,7 @@ continues_step ss found others (c ∷ cs) x s some more g h a k =
 -- nothing is left
 pub continues_end : (ss : List Symbol) (found : List Item) (here : List Symbol) → here ≡ [] → Continues ss found here → Comes item_list ss (Found found [])
 continues_end ss found here none g =
-    subst (λ xs. Comes item_list ss (Found xs [])) (append-nil found) (g (Found [] []) (subst (λ t. Comes item_list t (Found [] [])) (sym none) (one_more [] (Found [] []) (at_once (λ n. refl)))))
+    subst (λ xs. Comes item_list ss (Found xs [])) (append-nil found) (g (Found [] []) (subst (λ t. Comes item_list t (Found [] [])) (sym none) (one_more item_list [] (Found [] []) (at_once (λ n. refl)))))
 
 -- the next item stops
 pub continues_fails : (stop : Stop) (ss : List Symbol) (found : List Item) (here : List Symbol) → (here ≡ [] → ⊥) → Continues ss found here → Fails stop item here → Fails stop item_list ss
@@ -65,7 +57,7 @@ continues_fails (stops.Stuck left) ss found [] some g h = absurd (some refl)
 continues_fails (stops.Stuck left) ss found (c ∷ cs) some g (rest, n_is, h) = (
   rest,
   n_is,
-  g (Stuck rest) (one_more (c ∷ cs) (Stuck rest)
+  g (Stuck rest) (one_more item_list (c ∷ cs) (Stuck rest)
       (record { calls = h.calls; is = λ n le. ap (λ b. after b (λ y u. after (item_list n u) (λ xs t. Found (y ∷ xs) t))) (h.is n le) })),
 )
 continues_fails stops.Memory ss found here some g t = tt

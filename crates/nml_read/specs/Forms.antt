@@ -1,18 +1,18 @@
 -- What an operand begins with, as the reader keeps it. Private: contracts of the reader cite it.
-use Rattle.std.specs.Prelude.{ℕ, List, codes}
+use Rattle.std.specs.Prelude.{ℕ, List}
 use Rattle.nml_tree.specs.Formula.{Formula}
-use Rattle.nml_tree.specs.Formula as whole
-use Rattle.nml_tree.specs.declared.tree.Size.{Size}
-use Rattle.nml_tree.specs.Symbol.{Symbol}
-use Rattle.nml_read.specs.Reading.{Read, Found, Reader, after, mark, size, paren, fitted, slice, choice, operation}
-use Rattle.nml_read.specs.Reading as single
+use Rattle.readings.specs.Symbol.{Symbol}
+use Rattle.readings.specs.Reading.{Read}
+use Rattle.nml_grammar.specs.Reading.{Reader, paren, fitted, slice, choice, operation}
 use Rattle.nml_read.specs.declared.beginning.Fit.{Fit}
-use Rattle.nml_read.specs.declared.beginning.Fit.TheVariants as fit
 use Rattle.nml_read.specs.declared.beginning.Prefix.{Prefix}
-use Rattle.nml_read.specs.declared.beginning.Prefix.TheVariants as prefix
 use Rattle.nml_read.specs.declared.beginning.Form.{Form}
-use Rattle.nml_read.specs.declared.beginning.Form.TheVariants as form
 use Rattle.nml_read.specs.declared.beginning.Beginning.{Beginning}
+use Rattle.nml_tree.specs.Formula as whole
+use Rattle.nml_grammar.specs.Reading as single
+use Rattle.nml_read.specs.declared.beginning.Fit.TheVariants as fit
+use Rattle.nml_read.specs.declared.beginning.Prefix.TheVariants as prefix
+use Rattle.nml_read.specs.declared.beginning.Form.TheVariants as form
 use Rattle.nml_read.specs.declared.beginning.Beginning.TheVariants as beginning
 
 -- what fits a number into a type
@@ -47,9 +47,3 @@ formed inner room (form.Fitted f) at ss = fitted inner room (fit_of f) at ss
 formed inner room form.Slice at ss = slice inner room at ss
 formed inner room form.Choice at ss = choice inner room at ss
 formed inner room (form.Operation op) at ss = operation inner room (prefix_of op) at ss
-
--- `size , size )` at the end of a slice
-abbrev pub two_sizes : List Symbol → Read (Size × ℕ × Size × ℕ)
-two_sizes ss =
-    after (size ss) (λ high s1. after (mark (codes ",") s1) (λ d s2. after (size s2)
-    (λ low s3. after (mark (codes ")") s3) (λ q s4. Found (high, d, low, q) s4))))

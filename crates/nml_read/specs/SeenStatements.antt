@@ -2,9 +2,9 @@
 use Rattle.std.specs.Prelude.{ℕ, ◌-◌, Option, codes}
 use Rattle.nml_tree.specs.Formula.{Formula}
 use Rattle.nml_tree.specs.Block.{Block}
-use Rattle.nml_read.specs.Reading.{with_room}
-use Rattle.nml_read.specs.Readings.{Reading, ◌>>>◌, sign, optional}
-use Rattle.nml_read.specs.ReadingStatements.{Start, Naming, Halting, Branching}
+use Rattle.readings.specs.Reading.{with_room}
+use Rattle.readings.specs.Readings.{Reading, ◌>>>◌, sign, optional}
+use Rattle.nml_grammar.specs.ReadingStatements.{Start, Naming, Halting, Branching}
 use Rattle.nml_read.specs.Seen.{block_of, expression_of}
 use Rattle.nml_read.specs.declared.start.Start.{Start as Lent}
 use Rattle.nml_read.specs.declared.start.Start.TheVariants as lent

@@ -2,7 +2,8 @@
 ghost use Rattle.std.specs.Prelude.{◌≡◌};
 ghost use Rattle.std.specs.Option.{option_map};
 ghost use Rattle.nml_tree.specs.Formula.{formula, Fitted, Truth, Unary};
-ghost use Rattle.nml_read.specs.Reading.{looked_up, beginnings};
+ghost use Rattle.readings.specs.Reading.{looked_up};
+ghost use Rattle.nml_grammar.specs.Reading.{beginnings};
 ghost use Rattle.nml_read.specs.Forms.{beginning_of, fit_of, prefix_of};
 
 use nml_tree::{Expr, Size};

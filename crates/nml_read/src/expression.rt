@@ -2,18 +2,20 @@
 ghost use Rattle.std.specs.Prelude.{◌≡◌, ◌<◌, ◌≤◌, ◌-◌, length, map, IfOk, codes};
 ghost use Rattle.nml_tree.specs.Formula.{formula};
 ghost use Rattle.nml_tree.specs.Depth.{depth};
-ghost use Rattle.nml_read.specs.Forms.{fit_of, formed, two_sizes};
-ghost use Rattle.nml_read.specs.Reading.{Found, climb, looked_up, beginnings};
-ghost use Rattle.nml_read.specs.Reading as spec;
-ghost use Rattle.nml_read.specs.Seen.{expression_of, seen, Says, Told};
+ghost use Rattle.nml_read.specs.Forms.{fit_of, formed};
+ghost use Rattle.readings.specs.Reading.{Found, looked_up};
+ghost use Rattle.nml_grammar.specs.Reading.{climb, beginnings};
+ghost use Rattle.nml_read.specs.Seen.{expression_of};
+ghost use Rattle.readings.specs.Seen.{seen, Says};
+ghost use Rattle.nml_grammar.specs.Reading as spec;
+ghost use Rattle.readings.specs.Reading as marks;
 
 use crate::beginning::{Beginning, Fit, Form, begun_by, fitting, operating, truth};
-use crate::front::{behind, mark, size};
+use crate::front::size;
 use crate::operator::{joined, operator};
-use crate::sign::Sign;
-use crate::stop::Stop;
 use nk_base::Text;
-use nml_tree::{Expr, Name, Number, Size};
+use nml_tree::{Expr, Name, Number};
+use readings::{Sign, Stop, behind, mark};
 use sqlite_items::Boxed;
 use std::alloc::Global;
 
@@ -29,7 +31,7 @@ pub fn expression<'t, 'a>(
     signs: &'t [Sign<'a>],
 ) -> Result<(Expr, usize, &'t [Sign<'a>]), Stop>
     requires { 1 ≤ room }
-    ensures told { Told (λ x. Found (formula x.0) (map seen x.2.now)) result (λ n. climb n level room (map seen signs.now)) }
+    ensures says { Says (λ x. Found (formula x.0) (map seen x.2.now)) result (λ n ss. climb n level room ss) (map seen signs.now) }
     ensures deep { IfOk result (λ x. depth (formula x.0) ≡ x.1) }
     ensures within { IfOk result (λ x. (1 ≤ x.1) × (x.1 ≤ room)) }
     ensures shorter { IfOk result (λ x. length x.2.now < length signs.now) }
@@ -72,7 +74,7 @@ fn part<'t, 'a>(
     signs: &'t [Sign<'a>],
 ) -> Result<(Boxed<Expr>, usize, &'t [Sign<'a>]), Stop>
     requires { 2 ≤ room }
-    ensures told { Told (λ x. Found (formula x.0) (map seen x.2.now)) result (λ n. climb n level (room - 1) (map seen signs.now)) }
+    ensures says { Says (λ x. Found (formula x.0) (map seen x.2.now)) result (λ n ss. climb n level (room - 1) ss) (map seen signs.now) }
     ensures deep { IfOk result (λ x. depth (formula x.0) ≡ x.1) }
     ensures within { IfOk result (λ x. (1 ≤ x.1) × (x.1 < room)) }
     ensures shorter { IfOk result (λ x. length x.2.now < length signs.now) }
@@ -89,7 +91,7 @@ fn operand<'t, 'a>(
     signs: &'t [Sign<'a>],
 ) -> Result<(Expr, usize, &'t [Sign<'a>]), Stop>
     requires { 1 ≤ room }
-    ensures told { Told (λ x. Found (formula x.0) (map seen x.2.now)) result (λ n. spec.operand (climb n) room (map seen signs.now)) }
+    ensures says { Says (λ x. Found (formula x.0) (map seen x.2.now)) result (λ n ss. spec.operand (climb n) room ss) (map seen signs.now) }
     ensures deep { IfOk result (λ x. depth (formula x.0) ≡ x.1) }
     ensures within { IfOk result (λ x. (1 ≤ x.1) × (x.1 ≤ room)) }
     ensures shorter { IfOk result (λ x. length x.2.now < length signs.now) }
@@ -119,8 +121,8 @@ fn begun<'t, 'a>(
     rest: &'t [Sign<'a>],
 ) -> Result<(Expr, usize, &'t [Sign<'a>]), Stop>
     requires { 1 ≤ room }
-    ensures told { Told (λ x. Found (formula x.0) (map seen x.2.now)) result
-        (λ n. spec.begun (climb n) room (map seen here.now) at (map seen rest.now) (looked_up beginnings text.now)) }
+    ensures says { Says (λ x. Found (formula x.0) (map seen x.2.now)) result
+        (λ n ss. spec.begun (climb n) room (map seen here.now) at ss (looked_up beginnings text.now)) (map seen rest.now) }
     ensures deep { IfOk result (λ x. depth (formula x.0) ≡ x.1) }
     ensures within { IfOk result (λ x. (1 ≤ x.1) × (x.1 ≤ room)) }
     ensures shorter { IfOk result (λ x. length x.2.now ≤ length rest.now) }
@@ -148,7 +150,7 @@ fn node<'t, 'a>(
     signs: &'t [Sign<'a>],
 ) -> Result<(Expr, usize, &'t [Sign<'a>]), Stop>
     requires { 2 ≤ room }
-    ensures told { Told (λ x. Found (formula x.0) (map seen x.2.now)) result (λ n. formed (climb n) room form at (map seen signs.now)) }
+    ensures says { Says (λ x. Found (formula x.0) (map seen x.2.now)) result (λ n ss. formed (climb n) room form at ss) (map seen signs.now) }
     ensures deep { IfOk result (λ x. depth (formula x.0) ≡ x.1) }
     ensures within { IfOk result (λ x. (1 ≤ x.1) × (x.1 ≤ room)) }
     ensures shorter { IfOk result (λ x. length x.2.now < length signs.now) }
@@ -174,8 +176,8 @@ fn indexed<'t, 'a>(
     signs: &'t [Sign<'a>],
 ) -> Result<(Expr, usize, &'t [Sign<'a>]), Stop>
     requires { 1 ≤ room }
-    ensures told { Told (λ x. Found (formula x.0) (map seen x.2.now)) result
-        (λ n. spec.index (climb n) room name (map seen signs.now) (spec.behind (codes "[") (map seen signs.now))) }
+    ensures says { Says (λ x. Found (formula x.0) (map seen x.2.now)) result
+        (λ n ss. spec.index (climb n) room name ss (marks.behind (codes "[") ss)) (map seen signs.now) }
     ensures deep { IfOk result (λ x. depth (formula x.0) ≡ x.1) }
     ensures within { IfOk result (λ x. (1 ≤ x.1) × (x.1 ≤ room)) }
     ensures shorter { IfOk result (λ x. length x.2.now ≤ length signs.now) }
@@ -204,7 +206,7 @@ fn paren<'t, 'a>(
     signs: &'t [Sign<'a>],
 ) -> Result<(Expr, usize, &'t [Sign<'a>]), Stop>
     requires { 2 ≤ room }
-    ensures told { Told (λ x. Found (formula x.0) (map seen x.2.now)) result (λ n. spec.paren (climb n) room at (map seen signs.now)) }
+    ensures says { Says (λ x. Found (formula x.0) (map seen x.2.now)) result (λ n ss. spec.paren (climb n) room at ss) (map seen signs.now) }
     ensures deep { IfOk result (λ x. depth (formula x.0) ≡ x.1) }
     ensures within { IfOk result (λ x. (1 ≤ x.1) × (x.1 ≤ room)) }
     ensures shorter { IfOk result (λ x. length x.2.now < length signs.now) }
@@ -224,7 +226,7 @@ fn fitted<'t, 'a>(
     signs: &'t [Sign<'a>],
 ) -> Result<(Expr, usize, &'t [Sign<'a>]), Stop>
     requires { 2 ≤ room }
-    ensures told { Told (λ x. Found (formula x.0) (map seen x.2.now)) result (λ n. spec.fitted (climb n) room (fit_of fit) at (map seen signs.now)) }
+    ensures says { Says (λ x. Found (formula x.0) (map seen x.2.now)) result (λ n ss. spec.fitted (climb n) room (fit_of fit) at ss) (map seen signs.now) }
     ensures deep { IfOk result (λ x. depth (formula x.0) ≡ x.1) }
     ensures within { IfOk result (λ x. (1 ≤ x.1) × (x.1 ≤ room)) }
     ensures shorter { IfOk result (λ x. length x.2.now < length signs.now) }
@@ -250,7 +252,7 @@ fn slice<'t, 'a>(
     signs: &'t [Sign<'a>],
 ) -> Result<(Expr, usize, &'t [Sign<'a>]), Stop>
     requires { 2 ≤ room }
-    ensures told { Told (λ x. Found (formula x.0) (map seen x.2.now)) result (λ n. spec.slice (climb n) room at (map seen signs.now)) }
+    ensures says { Says (λ x. Found (formula x.0) (map seen x.2.now)) result (λ n ss. spec.slice (climb n) room at ss) (map seen signs.now) }
     ensures deep { IfOk result (λ x. depth (formula x.0) ≡ x.1) }
     ensures within { IfOk result (λ x. (1 ≤ x.1) × (x.1 ≤ room)) }
     ensures shorter { IfOk result (λ x. length x.2.now < length signs.now) }
@@ -258,7 +260,10 @@ fn slice<'t, 'a>(
     let (opening, rest) = mark(b"(", signs)?;
     let (inner, deep, rest) = part(alloc, 0, room, rest)?;
     let (comma, rest) = mark(b",", rest)?;
-    let (high, second_comma, low, closing, rest) = two_sizes(alloc, rest)?;
+    let (high, rest) = size(alloc, rest)?;
+    let (second_comma, rest) = mark(b",", rest)?;
+    let (low, rest) = size(alloc, rest)?;
+    let (closing, rest) = mark(b")", rest)?;
     let bits = Expr::Bits(at, opening, inner, comma, high, second_comma, low, closing);
     Ok((bits, 1 + deep, rest))
 }
@@ -272,7 +277,7 @@ fn choice<'t, 'a>(
     signs: &'t [Sign<'a>],
 ) -> Result<(Expr, usize, &'t [Sign<'a>]), Stop>
     requires { 2 ≤ room }
-    ensures told { Told (λ x. Found (formula x.0) (map seen x.2.now)) result (λ n. spec.choice (climb n) room at (map seen signs.now)) }
+    ensures says { Says (λ x. Found (formula x.0) (map seen x.2.now)) result (λ n ss. spec.choice (climb n) room at ss) (map seen signs.now) }
     ensures deep { IfOk result (λ x. depth (formula x.0) ≡ x.1) }
     ensures within { IfOk result (λ x. (1 ≤ x.1) × (x.1 ≤ room)) }
     ensures shorter { IfOk result (λ x. length x.2.now < length signs.now) }
@@ -285,19 +290,4 @@ fn choice<'t, 'a>(
     let (end_at, rest) = mark(b"endif", rest)?;
     let whole = Expr::If(at, condition, then_at, chosen, else_at, other, end_at);
     Ok((whole, 1 + first.max(second.max(third)), rest))
-}
-
-/// `size , size )`: the highest bit of a slice, the comma, the lowest bit and the closing parenthesis.
-fn two_sizes<'t, 'a>(
-    alloc: Global,
-    signs: &'t [Sign<'a>],
-) -> Result<(Size, u32, Size, u32, &'t [Sign<'a>]), Stop>
-    ensures told { Told (λ x. Found (x.0, x.1, x.2, x.3) (map seen x.4.now)) result (λ n. two_sizes (map seen signs.now)) }
-    ensures shorter { IfOk result (λ x. length x.4.now < length signs.now) }
-{
-    let (high, rest) = size(alloc, signs)?;
-    let (comma, rest) = mark(b",", rest)?;
-    let (low, rest) = size(alloc, rest)?;
-    let (closing, rest) = mark(b")", rest)?;
-    Ok((high, comma, low, closing, rest))
 }

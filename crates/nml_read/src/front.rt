@@ -1,48 +1,13 @@
 //! Single symbols in front.
-ghost use Rattle.std.specs.Prelude.{◌≡◌, ◌<◌, length, map, IfOk, IfSome};
-ghost use Rattle.std.specs.Option.{option_map};
-ghost use Rattle.nml_read.specs.Reading.{Found};
-ghost use Rattle.nml_read.specs.Reading as single;
-ghost use Rattle.nml_read.specs.Readings as spec;
-ghost use Rattle.nml_read.specs.Seen.{seen, Told, Says};
+ghost use Rattle.std.specs.Prelude.{◌<◌, length, map, IfOk};
+ghost use Rattle.readings.specs.Reading.{Found};
+ghost use Rattle.readings.specs.Seen.{seen, Says};
+ghost use Rattle.nml_grammar.specs.Words as spec;
 
-use crate::sign::Sign;
-use crate::stop::Stop;
 use nk_base::Text;
 use nml_tree::{Name, Number, Quoted, Size};
+use readings::{Sign, Stop};
 use std::alloc::Global;
-
-/// The place of this keyword or mark, and what stands behind it, where it is in front.
-pub fn behind<'t, 'a>(text: &[u8], signs: &'t [Sign<'a>]) -> Option<(u32, &'t [Sign<'a>])>
-    ensures behind { option_map (λ x. (x.0, map seen x.1.now)) result ≡ single.behind text.now (map seen signs.now) }
-    ensures shorter { IfSome result (λ x. length x.1.now < length signs.now) }
-{
-    let (first, rest) = signs.split_first()?;
-    match *first {
-        Sign::Fixed(at, other) => {
-            if other == text {
-                Some((at, rest))
-            } else {
-                None
-            }
-        }
-        Sign::Named(_, _) => None,
-        Sign::Number(_, _) => None,
-        Sign::Quoted(_, _) => None,
-    }
-}
-
-/// This keyword or mark, for which its place stands.
-pub fn mark<'t, 'a>(text: &[u8], signs: &'t [Sign<'a>]) -> Result<(u32, &'t [Sign<'a>]), Stop>
-    ensures told { Told (λ x. Found x.0 (map seen x.1.now)) result (λ n. spec.sign text.now n (map seen signs.now)) }
-    ensures says { Says (λ x. Found x.0 (map seen x.1.now)) result (spec.sign text.now) (map seen signs.now) }
-    ensures shorter { IfOk result (λ x. length x.1.now < length signs.now) }
-{
-    match behind(text, signs) {
-        Some(found) => Ok(found),
-        None => Err(Stop::Stuck(signs.len())),
-    }
-}
 
 /// A name.
 pub fn name<'t, 'a>(alloc: Global, signs: &'t [Sign<'a>]) -> Result<(Name, &'t [Sign<'a>]), Stop>
@@ -103,7 +68,6 @@ pub fn string<'t, 'a>(
 
 /// A size: a number or a name.
 pub fn size<'t, 'a>(alloc: Global, signs: &'t [Sign<'a>]) -> Result<(Size, &'t [Sign<'a>]), Stop>
-    ensures told { Told (λ x. Found x.0 (map seen x.1.now)) result (λ n. spec.size n (map seen signs.now)) }
     ensures says { Says (λ x. Found x.0 (map seen x.1.now)) result spec.size (map seen signs.now) }
     ensures shorter { IfOk result (λ x. length x.1.now < length signs.now) }
 {

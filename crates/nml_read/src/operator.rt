@@ -1,14 +1,15 @@
 //! Operators of two operands.
-ghost use Rattle.std.specs.Prelude.{◌≡◌, ◌<◌, ◌≤◌, length, map, IfSome};
+ghost use Rattle.std.specs.Prelude.{◌≡◌, ◌<◌, length, map, IfSome};
 ghost use Rattle.std.specs.Option.{option_map};
 ghost use Rattle.nml_tree.specs.Formula.{formula, Binary};
 ghost use Rattle.nml_tree.specs.Level.{binary_level};
-ghost use Rattle.nml_read.specs.Reading.{looked_up, operators};
-ghost use Rattle.nml_read.specs.Reading as spec;
-ghost use Rattle.nml_read.specs.Seen.{seen};
+ghost use Rattle.readings.specs.Reading.{looked_up};
+ghost use Rattle.nml_grammar.specs.Reading.{operators};
+ghost use Rattle.readings.specs.Seen.{seen};
+ghost use Rattle.nml_grammar.specs.Reading as spec;
 
-use crate::sign::Sign;
 use nml_tree::{Bin, Expr};
+use readings::Sign;
 use sqlite_items::Boxed;
 
 /// An operator in front: which, its place, its level, and what stands behind it.

@@ -1,11 +1,11 @@
 //! What a statement begins with.
 ghost use Rattle.std.specs.Prelude.{◌≡◌, ◌<◌, length, map, IfSome};
 ghost use Rattle.std.specs.Option.{option_map};
-ghost use Rattle.nml_read.specs.ReadingStatements as spec;
-ghost use Rattle.nml_read.specs.Seen.{seen};
+ghost use Rattle.readings.specs.Seen.{seen};
 ghost use Rattle.nml_read.specs.SeenStatements.{start_seen};
+ghost use Rattle.nml_grammar.specs.ReadingStatements as spec;
 
-use crate::sign::Sign;
+use readings::Sign;
 
 /// The first symbol of a statement and its place: a name, `halt`, `if`.
 #[derive(Clone, Copy)]

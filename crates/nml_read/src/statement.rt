@@ -3,21 +3,21 @@ ghost use Rattle.std.specs.Prelude.{◌≡◌, ◌≤◌, ◌<◌, ◌-◌, leng
 ghost use Rattle.std.specs.Option.{option_map};
 ghost use Rattle.nml_tree.specs.Formula.{formula};
 ghost use Rattle.nml_tree.specs.Block.{block, index, stmt};
-ghost use Rattle.nml_read.specs.Reading.{Found, climb};
-ghost use Rattle.nml_read.specs.Reading as single;
-ghost use Rattle.nml_read.specs.Readings.{◌>>>◌, optional, sign};
-ghost use Rattle.nml_read.specs.ReadingStatements as spec;
-ghost use Rattle.nml_read.specs.Seen.{block_of, expression_of, seen, Says};
+ghost use Rattle.readings.specs.Reading.{Found};
+ghost use Rattle.nml_grammar.specs.Reading.{climb};
+ghost use Rattle.readings.specs.Readings.{◌>>>◌, optional, sign};
+ghost use Rattle.nml_read.specs.Seen.{block_of, expression_of};
+ghost use Rattle.readings.specs.Seen.{seen, Says};
 ghost use Rattle.nml_read.specs.SeenStatements.{equals, start_seen};
+ghost use Rattle.readings.specs.Reading as marks;
+ghost use Rattle.nml_grammar.specs.ReadingStatements as spec;
 ghost use Rattle.nml_read.specs.SeenStatements as spec_of;
 
 use crate::expression::whole;
-use crate::front::{behind, mark};
-use crate::sign::Sign;
 use crate::start::{Start, first_of};
-use crate::stop::Stop;
 use nk_base::Text;
 use nml_tree::{Expr, Name, Place, Stmt};
+use readings::{Sign, Stop, behind, mark};
 use sqlite_items::Items;
 use std::alloc::Global;
 
@@ -163,7 +163,7 @@ fn naming<'t, 'a>(
 ) -> Result<(Stmt, &'t [Sign<'a>]), Stop>
     requires some { 1 ≤ room }
     requires few { room ≤ 200 }
-    ensures says { Says (λ x. Found (stmt x.0) (map seen x.1.now)) result (λ n ss. spec.naming (climb n) room name ss (single.behind (codes ".") ss)) (map seen signs.now) }
+    ensures says { Says (λ x. Found (stmt x.0) (map seen x.1.now)) result (λ n ss. spec.naming (climb n) room name ss (marks.behind (codes ".") ss)) (map seen signs.now) }
     ensures shorter { IfOk result (λ x. length x.1.now < length signs.now) }
 {
     match behind(b".", signs) {
@@ -191,7 +191,7 @@ fn placed<'t, 'a>(
 ) -> Result<(Stmt, &'t [Sign<'a>]), Stop>
     requires some { 1 ≤ room }
     requires few { room ≤ 200 }
-    ensures says { Says (λ x. Found (stmt x.0) (map seen x.1.now)) result (λ n ss. spec.place (climb n) room name ss (single.behind (codes "[") ss)) (map seen signs.now) }
+    ensures says { Says (λ x. Found (stmt x.0) (map seen x.1.now)) result (λ n ss. spec.place (climb n) room name ss (marks.behind (codes "[") ss)) (map seen signs.now) }
     ensures shorter { IfOk result (λ x. length x.1.now < length signs.now) }
 {
     match behind(b"[", signs) {

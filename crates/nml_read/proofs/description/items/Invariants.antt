@@ -1,6 +1,6 @@
 -- the items so far stand before those of the rest
 use Rattle.std.proofs.Common.{length, map}
-use Rattle.nml_read.specs.Seen.{seen}
+use Rattle.readings.specs.Seen.{seen}
 use Rattle.nml_read.proofs.WholeReading.{Continues}
 use Rattle.nml_read.proofs.description.items.Given as goal
 

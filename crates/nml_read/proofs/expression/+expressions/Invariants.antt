@@ -2,8 +2,10 @@
 use Rattle.std.proofs.Common.{◌≡◌, ◌<◌, ◌≤◌, length, map, ◌+◌, ◌*◌}
 use Rattle.nml_tree.specs.Formula.{Formula, formula}
 use Rattle.nml_tree.specs.Depth.{depth}
-use Rattle.nml_read.specs.Reading.{Read, climb, more}
-use Rattle.nml_read.specs.Seen.{seen, Arrives}
+use Rattle.readings.specs.Reading.{Read}
+use Rattle.nml_grammar.specs.Reading.{climb}
+use Rattle.nml_read.proofs.Turns.{behind_left}
+use Rattle.readings.specs.Seen.{seen, Comes}
 use Rattle.nml_read.proofs.expression.+expressions.Given as goal
 
 abbrev pub decreases-expression : goal.decreases-expression
@@ -39,8 +41,8 @@ decreases-part l = 6 * l.room
 -- whatever goes on behind the left part is what is read from the start
 abbrev pub invariant-expression-loop-turn : goal.invariant-expression-loop-turn
 invariant-expression-loop-turn l =
-    ((a : Read Formula) → Arrives (λ n. more n l.level l.room (formula l.left) (map seen l.rest)) a → Arrives
-    (λ n. climb n l.level l.room (map seen l.signs)) a)
+    ((a : Read Formula) → Comes (behind_left l.level l.room (formula l.left)) (map seen l.rest) a → Comes (λ n ss. climb n l.level l.room ss)
+    (map seen l.signs) a)
     × (depth (formula l.left) ≡ l.deep) × (1 ≤ l.deep) × (l.deep ≤ l.room) × (length l.rest < length l.signs)
 
 abbrev pub decreases-expression-loop-turn : goal.decreases-expression-loop-turn

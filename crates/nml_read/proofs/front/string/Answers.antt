@@ -1,8 +1,8 @@
 -- No other symbol is one.
 use Rattle.std.proofs.Common.{◌∷◌, ◌∙◌, ap, refl}
-use Rattle.nml_read.specs.Readings as spec
-use Rattle.nml_read.specs.declared.sign.Sign.TheVariants as lent
-use Rattle.nml_read.proofs.Fronts.{comes_stuck}
+use Rattle.readings.proofs.Fronts.{comes_stuck}
+use Rattle.nml_grammar.specs.Words as spec
+use Rattle.readings.specs.declared.sign.Sign.TheVariants as lent
 use Rattle.nml_read.proofs.front.string.Goals as goal
 
 pub returns-in-Fixed-clause-says : goal.returns-in-Fixed-clause-says

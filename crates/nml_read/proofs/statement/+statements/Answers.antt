@@ -4,12 +4,12 @@ use Rattle.std.proofs.lemmas.List.{length-map, map-append}
 use Rattle.std.proofs.lemmas.Result.{err_from_is_err_and}
 use Rattle.nml_tree.specs.Block.{stmt}
 use Rattle.nml_tree.specs.Formula.{formula}
-use Rattle.nml_read.specs.Readings.{◌>>>◌, optional, sign}
-use Rattle.nml_read.specs.Seen.{block_of, expression_of, seen}
+use Rattle.readings.specs.Readings.{◌>>>◌, optional, sign}
+use Rattle.nml_read.specs.Seen.{block_of, expression_of}
+use Rattle.readings.specs.Seen.{seen}
 use Rattle.nml_read.specs.SeenStatements.{branches, ending, start_seen}
-use Rattle.nml_read.proofs.Saying.{alike, both, fails, fails_behind, fails_made, makes}
-use Rattle.nml_read.proofs.SayingStatements.{branched, branches_are, comes_both, comes_narrow, fails_alike, fails_behind_both}
-use Rattle.nml_read.proofs.SayingStatements.{goes_end, goes_fails, goes_further, put-If}
+use Rattle.readings.proofs.Saying.{alike, both, fails, fails_behind, fails_made, makes, comes_both, fails_alike, fails_behind_both}
+use Rattle.nml_read.proofs.SayingStatements.{branched, branches_are, comes_narrow, goes_end, goes_fails, goes_further, put-If}
 use Rattle.nml_read.proofs.statement.+statements.Goals as goal
 
 pub branches-returns-in_err-other-clause-says : goal.branches-returns-in_err-other-clause-says

@@ -1,7 +1,7 @@
 -- What is left of the room falls from a statement to those within it, and what is left of the symbols from one to the next.
 use Rattle.std.proofs.Common.{◌≤◌, ◌+◌, ◌-◌, ◌*◌, length, map}
 use Rattle.nml_tree.specs.Block.{stmt}
-use Rattle.nml_read.specs.Seen.{seen}
+use Rattle.readings.specs.Seen.{seen}
 use Rattle.nml_read.proofs.SayingStatements.{Goes}
 use Rattle.nml_read.proofs.statement.+statements.Given as goal
 

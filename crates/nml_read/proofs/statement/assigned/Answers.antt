@@ -2,10 +2,11 @@
 use Rattle.std.proofs.Common.{◌-◌, codes, map}
 use Rattle.std.proofs.lemmas.List.{length-map}
 use Rattle.std.proofs.lemmas.Result.{err_from_is_err_and}
-use Rattle.nml_read.specs.Readings.{◌>>>◌, sign}
-use Rattle.nml_read.specs.Seen.{expression_of, seen}
-use Rattle.nml_read.proofs.Saying.{both, fails, fails_behind}
-use Rattle.nml_read.proofs.SayingStatements.{comes_narrow, comes_roomy, fails_roomy}
+use Rattle.readings.specs.Readings.{◌>>>◌, sign}
+use Rattle.nml_read.specs.Seen.{expression_of}
+use Rattle.readings.specs.Seen.{seen}
+use Rattle.readings.proofs.Saying.{both, fails, fails_behind, comes_roomy, fails_roomy}
+use Rattle.nml_read.proofs.SayingStatements.{comes_narrow}
 use Rattle.nml_read.proofs.statement.assigned.Goals as goal
 
 pub returns-then-room-le1-clause-says : goal.returns-then-room-le1-clause-says

@@ -2,10 +2,10 @@
 use Rattle.std.proofs.Common.{map}
 use Rattle.std.proofs.lemmas.Result.{err_from_is_err_and}
 use Rattle.nml_tree.specs.Block.{index}
-use Rattle.nml_read.specs.Seen.{seen}
+use Rattle.readings.specs.Seen.{seen}
 use Rattle.nml_read.specs.SeenStatements.{equals}
-use Rattle.nml_read.proofs.Saying.{alike, fails_made, makes}
-use Rattle.nml_read.proofs.SayingStatements.{assigns, assignment_is, fails_alike, put-Assign}
+use Rattle.readings.proofs.Saying.{alike, fails_made, makes, fails_alike}
+use Rattle.nml_read.proofs.SayingStatements.{assigns, assignment_is, put-Assign}
 use Rattle.nml_read.proofs.statement.assignment.Goals as goal
 
 pub returns-in_err-place-clause-says : goal.returns-in_err-place-clause-says

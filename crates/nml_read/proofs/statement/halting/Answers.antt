@@ -1,10 +1,10 @@
 -- `halt`, its expression in parentheses, and the semicolon, one behind the other.
 use Rattle.std.proofs.Common.{◌-◌, codes, refl}
 use Rattle.std.proofs.lemmas.Result.{err_from_is_err_and}
-use Rattle.nml_read.specs.Readings.{sign}
+use Rattle.readings.specs.Readings.{sign}
 use Rattle.nml_read.specs.Seen.{expression_of}
-use Rattle.nml_read.proofs.Saying.{at_once}
-use Rattle.nml_read.proofs.SayingStatements.{comes_both, comes_later, fails_behind_both, fails_both, fails_later, fails_now, put-Halt}
+use Rattle.readings.proofs.Saying.{at_once, comes_both, comes_later, fails_behind_both, fails_both, fails_later, fails_now}
+use Rattle.nml_read.proofs.SayingStatements.{put-Halt}
 use Rattle.nml_read.proofs.statement.halting.Goals as goal
 
 pub returns-in_err-e-clause-says : goal.returns-in_err-e-clause-says

@@ -1,9 +1,11 @@
 -- The index needs room for a node of its own, and what is assigned stands behind its bracket.
 use Rattle.std.proofs.Common.{◌-◌, codes, map}
 use Rattle.std.proofs.lemmas.List.{length-map}
-use Rattle.nml_read.specs.Readings.{sign}
-use Rattle.nml_read.specs.Seen.{expression_of, seen}
-use Rattle.nml_read.proofs.SayingStatements.{comes_narrow, says_behind_both, says_roomy}
+use Rattle.readings.specs.Readings.{sign}
+use Rattle.nml_read.specs.Seen.{expression_of}
+use Rattle.readings.specs.Seen.{seen}
+use Rattle.nml_read.proofs.SayingStatements.{comes_narrow}
+use Rattle.readings.proofs.Saying.{says_behind_both, says_roomy}
 use Rattle.nml_read.proofs.statement.indexed.Goals as goal
 
 pub returns-then-below-le1-clause-says : goal.returns-then-below-le1-clause-says

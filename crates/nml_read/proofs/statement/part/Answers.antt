@@ -1,8 +1,8 @@
 -- Behind the dot stand two symbols.
 use Rattle.std.proofs.Common.{refl}
 use Rattle.std.proofs.lemmas.Result.{err_from_is_err_and}
-use Rattle.nml_read.proofs.Saying.{at_once}
-use Rattle.nml_read.proofs.SayingStatements.{comes_later, fails_later, fails_now, put-Part}
+use Rattle.readings.proofs.Saying.{at_once, comes_later, fails_later, fails_now}
+use Rattle.nml_read.proofs.SayingStatements.{put-Part}
 use Rattle.nml_read.proofs.statement.part.Goals as goal
 
 pub returns-in_err-semicolon-clause-says : goal.returns-in_err-semicolon-clause-says

@@ -1,9 +1,9 @@
 -- What stands behind an opening bracket, where that is next.
 use Rattle.std.proofs.Common.{map, ap, sym}
-use Rattle.nml_read.specs.Reading.{climb}
-use Rattle.nml_read.specs.ReadingStatements as spec
-use Rattle.nml_read.specs.Seen.{seen}
-use Rattle.nml_read.proofs.Saying.{says_alike}
+use Rattle.nml_grammar.specs.Reading.{climb}
+use Rattle.readings.specs.Seen.{seen}
+use Rattle.readings.proofs.Saying.{says_alike}
+use Rattle.nml_grammar.specs.ReadingStatements as spec
 use Rattle.nml_read.proofs.statement.placed.Goals as goal
 
 pub returns-in-Some-clause-says : goal.returns-in-Some-clause-says

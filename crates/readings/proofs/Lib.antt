@@ -1,0 +1,14 @@
+pub mod Symbols
+pub mod After
+pub mod Local
+pub mod Keeps
+pub mod Settling
+pub mod Ending
+pub mod Going
+pub mod Combining
+pub mod CombiningWords
+pub mod CombiningMarks
+pub mod CombiningLists
+pub mod Saying
+pub mod Furthering
+pub mod Fronts

@@ -1,0 +1,20 @@
+-- Readings of a language from a list of symbols. The reading of a language is made like this:
+--
+-- 1. Its tokens become symbols (Symbol): keywords and marks, names, numbers, strings, each with its place.
+-- 2. A reading (Readings) takes a number of calls and symbols, and comes to what it found and the symbols behind that, or to the symbols before
+--    which it is stuck (Reading). One symbol is read by `sign` or by a reading of the language's own; `>>>` reads one thing behind the other, `made`
+--    makes something else of it, `optional` reads what stands behind a mark where that is next, `further` things each of which stands behind
+--    a mark, `worded` what begins with a word of a table.
+-- 3. Each is lawful (proofs/Lawful) towards the spelling of the trees that it reads: it finds what is spelled and nothing else (sound,
+--    complete), it goes by no symbol behind the next (local), where it is stuck the symbols before go on to be such a tree (viable), and with more
+--    calls than there are symbols it is told (settled). The laws of readings put together follow from those of their parts:
+--    `sign_law`, `then_law`, `made_law`, `other_law`, `given_law` (proofs/Combining), `single_law`, `worded_law` (proofs/CombiningWords), `by_mark_law`,
+--    `optional_law` (proofs/CombiningMarks), `further_law` (proofs/CombiningLists). What recurs into itself, as expressions do, states its laws by itself.
+--    So the symbols spell one tree or none, the least place where they stop to begin one is where the reading is stuck, and there is an answer.
+-- 4. A function that reads says by `Says` (Seen) what its reading comes to; `Sign`, `Stop`, `behind` and `mark` stand in src/, and proofs/Saying and
+--    proofs/Furthering have what is said of readings put together.
+pub mod Symbol
+pub mod Reading
+pub mod Readings
+pub mod Lawful
+pub mod Seen
