@@ -21,7 +21,7 @@ use Rattle.nml_tree.specs.Depth.{depth_limit}
 use Rattle.readings.specs.Reading.{Read, Found, Stuck, Unread, after, behind}
 use Rattle.nml_grammar.specs.Reading.{climb}
 use Rattle.nml_grammar.specs.ReadingStatements.{statements}
-use Rattle.readings.specs.Readings.{Reading, ◌>>>◌, made, given, sign, optional, further, worded}
+use Rattle.readings.specs.Readings.{to_end, Reading, ◌>>>◌, made, given, sign, optional, further, worded}
 use Rattle.nml_grammar.specs.Words.{size, name, number, string}
 use Rattle.nml_tree.specs.declared.attributes.Attribute.TheVariants as attributes
 use Rattle.nml_tree.specs.declared.attributes.Template.TheVariants as templates
@@ -218,6 +218,4 @@ item = worded openings behind_opening
 
 -- items one behind the other, to the end
 abbrev pub item_list : Reading (List Item)
-item_list zero ss = Unread
-item_list (suc n) [] = Found [] []
-item_list (suc n) (s ∷ ss) = after (item n (s ∷ ss)) (λ x r. after (item_list n r) (λ xs t. Found (x ∷ xs) t))
+item_list = to_end item

@@ -4,6 +4,7 @@ use Rattle.nk_base.specs.Text.{text_eq}
 use Rattle.nml_tree.specs.declared.tree.Desc.{Desc}
 use Rattle.nml_tree.specs.declared.fault.DescFault.{DescFault}
 use Rattle.nml_tree.specs.Keyword.{is_keyword}
+use Rattle.readings.specs.Whole.{BeginsOne, EndsBefore}
 use Rattle.readings.specs.Symbol.{Symbol, first_place}
 use Rattle.nml_tree.specs.SpellsTree.{SpellsTree}
 use Rattle.nml_tree.specs.Floats.{float_places}
@@ -42,15 +43,12 @@ pub record IsTree (bytes : List ℕ) (d : Desc) : Type 0 where
   pub spells : SpellsTree (map symbol tokens) d
 
 -- some description has these symbols and others behind them
-pub record BeginsTree (symbols : List Symbol) : Type 0 where
-  pub further : List Symbol
-  pub description : Desc
-  pub spells : SpellsTree (symbols ++ further) description
+abbrev pub BeginsTree : List Symbol → Type 0
+BeginsTree symbols = BeginsOne SpellsTree symbols
 
 -- no description has the symbols in front and the first of the others, or the symbols in front alone where there are no others
 abbrev pub StopsBefore : List Symbol → List Symbol → Type 0
-StopsBefore front [] = (d : Desc) → SpellsTree front d → ⊥
-StopsBefore front (s ∷ ss) = BeginsTree (front ++ s ∷ []) → ⊥
+StopsBefore front left = EndsBefore SpellsTree front left
 
 -- No description has the tokens of the bytes: those in front still begin one, and with the token at this place they begin none. The place is
 -- the length of the bytes where they end too early.

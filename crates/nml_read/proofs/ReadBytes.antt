@@ -69,10 +69,10 @@ has_no_tree bytes ps ss left at h is (rest, n_is, c) e =
     record {
       tokens = ps;
       has = h;
-      front = t.0;
+      front = t.front;
       left = rest;
-      whole = sym is ∙ t.1;
-      begins = t.2;
-      stops = t.3;
-      is = e ∙ ap (first_place (length bytes)) (ap (λ us. drop (length us - left) us) t.1 ∙ behind_front t.0 rest left n_is);
+      whole = sym is ∙ t.whole;
+      begins = t.begins;
+      stops = t.stops;
+      is = e ∙ ap (first_place (length bytes)) (ap (λ us. drop (length us - left) us) t.whole ∙ behind_front t.front rest left n_is);
     }

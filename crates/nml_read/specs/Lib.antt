@@ -1,5 +1,3 @@
 pub mod Trees
 pub mod Seen
 pub mod SeenWords
-pub mod Forms
-pub mod SeenStatements

@@ -7,9 +7,8 @@ ghost use Rattle.nml_grammar.specs.ReadingItems.{attribute_words};
 ghost use Rattle.readings.specs.Seen.{seen, Says};
 ghost use Rattle.nml_grammar.specs.ReadingItems as items;
 
-use crate::front::{name, string};
-use crate::statement::statements;
 use nk_base::Text;
+use nml_statement::{name, statements, string};
 use nml_tree::{Action, Arg, Attribute, Attrs, Name, Quoted, Stmt, Template};
 use readings::{Sign, Stop, behind, mark};
 use sqlite_items::Items;

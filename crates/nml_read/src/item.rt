@@ -7,9 +7,9 @@ ghost use Rattle.nml_read.specs.SeenWords.{seen_opening};
 ghost use Rattle.readings.specs.Seen.{seen, Says, Comes};
 ghost use Rattle.nml_grammar.specs.ReadingItems as items;
 
-use crate::front::{name, number, size};
 use crate::rules::{mode, op};
 use crate::types::type_read;
+use nml_statement::{name, number, size};
 use nml_tree::{Item, Port, PortWord, Storage, StorageWord};
 use readings::{Sign, Stop, behind, mark};
 use std::alloc::Global;

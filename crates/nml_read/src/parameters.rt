@@ -5,8 +5,8 @@ ghost use Rattle.readings.specs.Readings.{further};
 ghost use Rattle.readings.specs.Seen.{seen, Says};
 ghost use Rattle.nml_grammar.specs.ReadingItems as items;
 
-use crate::front::name;
 use crate::types::type_read;
+use nml_statement::name;
 use nml_tree::{Par, Pars};
 use readings::{Sign, Stop, behind, mark};
 use sqlite_items::Items;

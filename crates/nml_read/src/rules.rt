@@ -8,9 +8,8 @@ ghost use Rattle.nml_grammar.specs.Words as spec;
 ghost use Rattle.nml_grammar.specs.ReadingItems as items;
 
 use crate::attributes::attrs;
-use crate::expression::whole;
-use crate::front::name;
 use crate::parameters::pars;
+use nml_statement::{name, whole};
 use nml_tree::{Expr, Item, ModeRule, Name, OpRule, OrRule, RuleWord};
 use readings::{Sign, Stop, behind, mark};
 use sqlite_items::Items;

@@ -9,8 +9,8 @@ ghost use Rattle.readings.specs.Seen.{seen, Says};
 ghost use Rattle.nml_grammar.specs.Words as spec;
 ghost use Rattle.nml_grammar.specs.ReadingItems as items;
 
-use crate::front::size;
 use nk_base::Text;
+use nml_statement::size;
 use nml_tree::{Name, Size, TypeExpr};
 use readings::{Sign, Stop, mark};
 use std::alloc::Global;

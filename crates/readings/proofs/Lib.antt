@@ -9,6 +9,9 @@ pub mod Combining
 pub mod CombiningWords
 pub mod CombiningMarks
 pub mod CombiningLists
+pub mod ToEnd
+pub mod OneEnd
 pub mod Saying
 pub mod Furthering
+pub mod Continuing
 pub mod Fronts

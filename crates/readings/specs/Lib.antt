@@ -5,7 +5,7 @@
 --    which it is stuck (Reading). One symbol is read by `sign` or by a reading of the language's own; `>>>` reads one thing behind the other, `made`
 --    makes something else of it, `optional` reads what stands behind a mark where that is next, `further` things each of which stands behind
 --    a mark, `worded` what begins with a word of a table.
--- 3. Each is lawful (proofs/Lawful) towards the spelling of the trees that it reads: it finds what is spelled and nothing else (sound,
+-- 3. Each is lawful (Lawful) towards the spelling of the trees that it reads: it finds what is spelled and nothing else (sound,
 --    complete), it goes by no symbol behind the next (local), where it is stuck the symbols before go on to be such a tree (viable), and with more
 --    calls than there are symbols it is told (settled). The laws of readings put together follow from those of their parts:
 --    `sign_law`, `then_law`, `made_law`, `other_law`, `given_law` (proofs/Combining), `single_law`, `worded_law` (proofs/CombiningWords), `by_mark_law`,
@@ -17,4 +17,5 @@ pub mod Symbol
 pub mod Reading
 pub mod Readings
 pub mod Lawful
+pub mod Whole
 pub mod Seen

@@ -46,6 +46,12 @@ abbrev pub further : {A : Type 0} → List ℕ → Reading A → Reading (List (
 further text reads zero ss = Unread
 further text reads (suc n) ss = further_from reads (λ s. further text reads n s) n ss (behind text ss)
 
+-- things one behind the other, to the end
+abbrev pub to_end : {A : Type 0} → Reading A → Reading (List A)
+to_end reads zero ss = Unread
+to_end reads (suc n) [] = Found [] []
+to_end reads (suc n) (s ∷ ss) = after (reads n (s ∷ ss)) (λ x r. after (to_end reads n r) (λ xs t. Found (x ∷ xs) t))
+
 -- ---- what begins with one of some words
 
 -- what stands behind this word; `here` are the symbols from it on
