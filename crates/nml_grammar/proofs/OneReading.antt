@@ -1,11 +1,11 @@
 -- Bytes have one description, or none and then one place where their tokens stop to begin one.
-use Rattle.std.proofs.Common.{◌≡◌, ◌⊎◌, inl, inr, ℕ, List, [], ◌∷◌, ◌++◌, length, map, refl, ap, sym, ◌∙◌, subst, append_assoc, append-nil, ⊎_elim}
+use Rattle.std.proofs.Common.{◌≡◌, ℕ, List, ◌++◌, length, map, ap, sym, ◌∙◌}
 use Rattle.nml_tree.specs.declared.tree.Desc.{Desc}
-use Rattle.readings.specs.Symbol.{Symbol, first_place}
+use Rattle.readings.specs.Symbol.{first_place}
 use Rattle.nml_tree.specs.SpellsTree.{SpellsTree}
 use Rattle.nml_lex.proofs.Parts.{one}
 use Rattle.readings.proofs.OneEnd.{goes_through, one_left}
-use Rattle.nml_grammar.specs.Trees.{symbol, IsTree, BeginsTree, StopsBefore, HasNoTree}
+use Rattle.nml_grammar.specs.Trees.{symbol, IsTree, HasNoTree}
 use Rattle.nml_grammar.proofs.OneItem.{unique_tree}
 
 -- the tokens stop at one place

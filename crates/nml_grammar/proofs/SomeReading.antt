@@ -1,17 +1,15 @@
 -- Any bytes have a description, or one of the faults: they are stuck, no description has their tokens, or it has a type `float`.
-use Rattle.std.proofs.Common.{◌≡◌, ◌⊎◌, inl, inr, ℕ, suc, ◌<◌, List, [], ◌∷◌, length, map, refl, sym, ◌∙◌, arith}
+use Rattle.std.proofs.Common.{◌≡◌, ◌⊎◌, inl, inr, ℕ, suc, List, [], ◌∷◌, length, map, refl}
 use Rattle.nml_tree.specs.declared.tree.Desc.{Desc}
-use Rattle.nml_tree.specs.declared.tree.Item.{Item}
 use Rattle.readings.specs.Symbol.{Symbol, first_place}
 use Rattle.nml_tree.specs.Floats.{float_places}
 use Rattle.nml_lex.specs.Lexed.{HasPieces, IsStuckAt, Piece}
 use Rattle.nml_lex.proofs.Settled.{some}
-use Rattle.readings.specs.Reading.{Read, Found, Stuck, Unread}
+use Rattle.readings.specs.Reading.{Stuck}
 use Rattle.nml_tree.specs.SpellsTree.{SpellsTree}
 use Rattle.readings.specs.Whole.{StopsIn}
 use Rattle.nml_grammar.specs.ReadingItems.{item_list}
 use Rattle.nml_grammar.specs.Trees.{symbol, IsTree, HasNoTree, IsFloat}
-use Rattle.readings.specs.Lawful.{IsTold}
 use Rattle.nml_grammar.proofs.WholeTrees.{stuck_tree_once, some_symbols}
 
 -- where the symbols stop to begin a description, the bytes have none

@@ -1,5 +1,5 @@
 -- Reading types, attributes and items from the front of a list of symbols.
-use Rattle.std.specs.Prelude.{ℕ, zero, suc, ◌-◌, List, [], ◌∷◌, Option, Some, None, option_map, codes}
+use Rattle.std.specs.Prelude.{ℕ, ◌-◌, List, [], ◌∷◌, Option, Some, None, option_map, codes}
 use Rattle.nml_tree.specs.declared.names.Name.{Name}
 use Rattle.nml_tree.specs.declared.expression.Expr.{Expr}
 use Rattle.nml_tree.specs.declared.statement.Stmt.{Stmt}
@@ -18,7 +18,7 @@ use Rattle.nml_tree.specs.declared.tree.Item.{Item}
 use Rattle.readings.specs.Symbol.{Symbol}
 use Rattle.nml_tree.specs.Inverse.{expr_of, stmts_of}
 use Rattle.nml_tree.specs.Depth.{depth_limit}
-use Rattle.readings.specs.Reading.{Read, Found, Stuck, Unread, after, behind}
+use Rattle.readings.specs.Reading.{Read, Found, Stuck, after, behind}
 use Rattle.nml_grammar.specs.Reading.{climb}
 use Rattle.nml_grammar.specs.ReadingStatements.{statements}
 use Rattle.readings.specs.Readings.{to_end, Reading, ◌>>>◌, made, given, sign, optional, further, worded}

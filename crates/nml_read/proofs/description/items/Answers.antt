@@ -1,7 +1,7 @@
 -- One item more, or the end.
 use Rattle.std.proofs.Common.{sym}
 use Rattle.std.proofs.lemmas.Result.{err_from_is_err_and}
-use Rattle.readings.proofs.Continuing.{continues_start, continues_step, continues_end, continues_fails, none_left, some_left}
+use Rattle.readings.proofs.Continuing.{continues_step, continues_end, continues_fails, none_left, some_left}
 use Rattle.nml_grammar.specs.ReadingItems.{item}
 use Rattle.nml_read.proofs.description.items.Goals as goal
 
