@@ -8,6 +8,7 @@ use Rattle.readings.specs.declared.stop.Stop.{Stop}
 use Rattle.readings.specs.declared.sign.Sign.TheVariants as lent
 use Rattle.readings.specs.declared.stop.Stop.TheVariants as stops
 
+-- the symbol that a function has
 abbrev pub seen : Sign → Symbol
 seen (lent.Fixed at text) = Symbol.Fixed at text.now
 seen (lent.Named at text) = Symbol.Named at text.now

@@ -1,12 +1,12 @@
-//! Why the reader stops.
+//! Why a reader stops.
 
 use nk_base::Memory;
 use std::alloc::{AllocError, AllocFailed};
 
-/// Why the reader stops before the end.
+/// Why a reader stops before the end of what it reads. The two reasons are this project's own.
 #[derive(Clone, Copy, Debug)]
 pub enum Stop {
-    /// The first of so many symbols that are left fits nothing, or there is none where one is wanted.
+    /// The first of so many symbols that are left fits nothing; 0 where there is none and one is wanted.
     Stuck(usize),
     /// Want of memory.
     Memory,
