@@ -2,3 +2,4 @@ pub mod Signs
 pub mod SayingRules
 pub mod FirstFloat
 pub mod ReadBytes
+pub mod OneReading
