@@ -2,7 +2,8 @@
 use Rattle.std.specs.Prelude.{◌≡◌, refl, pos, negsuc, codes, []}
 use Rattle.nk_base.specs.declared.number.Ty.TheVariants.{Bool, Card, Int}
 use Rattle.nk_base.specs.Hexadecimal.{hexadecimal, digits_of_word}
-use Rattle.nk_base.specs.Number.{wrapped}
+use Rattle.nk_base.specs.Number.{wrapped, low_bits, width_of}
+use Rattle.nk_base.specs.Text.{GrewByFront}
 
 -- 200 is -56 as a signed number of 8 bits
 signed_above : wrapped (Int 8) (pos 200) ≡ negsuc 55
@@ -30,6 +31,14 @@ unsigned_above = refl
 unsigned_wide : wrapped (Card 64) (negsuc 0) ≡ pos 18446744073709551615
 unsigned_wide = refl
 
+-- the lowest 8 bits of -1
+bits_below : low_bits 8 (negsuc 0) ≡ pos 255
+bits_below = refl
+
+-- a truth value has one bit
+truth_width : width_of Bool ≡ 1
+truth_width = refl
+
 truth : wrapped Bool (pos 1) ≡ pos 1
 truth = refl
 
@@ -46,6 +55,10 @@ cut = refl
 
 no_digits : hexadecimal 0 7 ≡ []
 no_digits = refl
+
+-- a front of the digits behind what was there
+grew : GrewByFront (codes "r") (codes "r1") (codes "105")
+grew = (codes "1", codes "05", refl, refl)
 
 -- four bits a digit, rounded up
 digits_of_1 : digits_of_word 1 ≡ 1

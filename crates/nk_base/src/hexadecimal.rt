@@ -1,7 +1,7 @@
 ghost use Rattle.std.specs.Prelude.{◌≡◌, ◌<◌, ◌++◌, OnOk, OnErr};
 ghost use Rattle.std.specs.Char.{digit_char};
 ghost use Rattle.nk_base.specs.Hexadecimal.{hexadecimal};
-ghost use Rattle.nk_base.specs.Text.{AppendsFront};
+ghost use Rattle.nk_base.specs.Text.{GrewByFront};
 
 use crate::{Memory, Text};
 
@@ -11,7 +11,7 @@ use crate::{Memory, Text};
 /// project's own. The one error is want of memory; then some front of the digits was appended.
 pub fn push_hexadecimal(text: &mut Text, digits: u32, n: u128) -> Result<(), Memory>
     ensures ok { OnOk result (text.new ≡ text.old ++ hexadecimal digits n) }
-    ensures err { OnErr result (AppendsFront text.old text.new (hexadecimal digits n)) }
+    ensures err { OnErr result (GrewByFront text.old text.new (hexadecimal digits n)) }
 {
     if digits > 0 {
         push_hexadecimal(text, digits - 1, n / 16)?;

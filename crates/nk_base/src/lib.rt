@@ -7,8 +7,6 @@ mod front;
 mod hexadecimal;
 mod memory;
 mod number;
-#[cfg(test)]
-mod tests;
 mod text;
 
 pub use decimal::{dec, dec_into, number_of_digits, number_up_to};

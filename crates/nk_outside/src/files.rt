@@ -6,7 +6,7 @@ ghost use Rattle.nk_outside.specs.Held.{Names, Reads, Lacks, IsTooLong, SameElse
 use nk_base::{Memory, Text};
 use std::alloc::{AllocError, AllocFailed, Global};
 
-/// A file that is read has at most so many bytes. The limit is this project's own.
+/// A file that is read has at most so many bytes, 4 MiB. The limit is this project's own.
 pub const FILE_LIMIT: usize = 4_194_304;
 
 /// Why a file isn't read.
@@ -34,7 +34,8 @@ pub enum WriteFault {
 /// Files by their names: a map from names to bytes, which may be told or not, and four counts.
 ///
 /// No count falls. Each call raises the count of calls by one, except that it stays at 2^64-1. A count rose where it
-/// is greater than before the call, or stands at 2^64-1. Whether the map is told never changes.
+/// is greater than before the call, or stands at 2^64-1. Whether the map is told never changes. All of this is this
+/// project's own.
 pub trait Files {
     /// The bytes of each name, where they are told.
     ghost held: { Self → Option Names };
@@ -44,9 +45,10 @@ pub trait Files {
 
     /// The bytes of a name, at most [`FILE_LIMIT`]. It changes no file.
     ///
-    /// `Failed` comes only where the count of read faults rose, `Absent` only where that of absent names rose and the
-    /// name has no file. Where the map is told, `TooLong` comes exactly where the call met no other fault and the name
-    /// has more than [`FILE_LIMIT`] bytes. Want of memory may come at any growth.
+    /// The count of read faults rises exactly where the answer is `Failed`, and that of absent names exactly where it is
+    /// `Absent`; no write fault is counted. Where the map is told and the call met no other fault, `Absent` comes exactly
+    /// where the name has no file, `TooLong` exactly where it has more than [`FILE_LIMIT`] bytes, and else the bytes are
+    /// those of the name. Want of memory may come at any growth.
     fn read(&mut self, alloc: Global, name: &Text) -> Result<Vec<u8>, ReadFault>
         ensures held { held self.new ≡ held self.old }
         ensures bytes { IfOk result (λ bytes. Reads (held self.old) name.now bytes.items) }
@@ -59,9 +61,10 @@ pub trait Files {
         ensures found { result ≢ Err ReadFault.Absent → (counts self.new).absents ≡ (counts self.old).absents }
         ensures writes { (counts self.new).write_faults ≡ (counts self.old).write_faults };
 
-    /// Puts the bytes under a name. In every case the other files are as before.
+    /// Puts the bytes under a name, in the place of those that it had. In every case the other files are as before.
     ///
-    /// `Failed` comes only where the count of write faults rose. After want of memory all files are as before.
+    /// The count of write faults rises exactly where the answer is `Failed`; what the name has then is left open. Want of
+    /// memory may come at any growth, and all files are as before then. No read fault and no absent name is counted.
     fn write(&mut self, alloc: Global, name: &Text, bytes: &[u8]) -> Result<(), WriteFault>
         ensures holds { OnOk result (Holds (held self.new) name.now bytes.now) }
         ensures others { SameElsewhere name.now (held self.old) (held self.new) }

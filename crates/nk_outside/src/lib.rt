@@ -8,8 +8,6 @@ mod never_fails;
 mod os_files;
 mod os_sink;
 mod sink;
-#[cfg(test)]
-mod tests;
 
 pub use files::{FILE_LIMIT, Files, ReadFault, WriteFault};
 pub use mem_files::MemFiles;

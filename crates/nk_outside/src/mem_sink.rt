@@ -8,7 +8,8 @@ use std::alloc::Global;
 
 /// A sink in memory. It numbers its calls from 1, and fails those that are listed, taking nothing.
 ///
-/// A put of no bytes is no call. A number that has come to 2^64-1 stays there.
+/// A put of no bytes is no call. A number that has come to 2^64-1 stays there. A put that failed took nothing, so that
+/// putting the piece again goes on where it stood.
 #[derive(Drop)]
 pub struct MemSink {
     /// What was taken so far.

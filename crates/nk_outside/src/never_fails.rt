@@ -5,7 +5,7 @@ ghost use Rattle.nk_outside.specs.Taken.{Took, TookFront};
 use crate::{Sink, WriteFault};
 use std::alloc::Global;
 
-/// A sink in memory that no call fails.
+/// A sink in memory that no call fails: its count of faults is 0 always. Memory may run out.
 #[derive(Drop)]
 pub struct NeverFails {
     /// What was taken so far.

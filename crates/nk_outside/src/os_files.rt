@@ -2,7 +2,7 @@ ghost use Rattle.std.specs.Prelude.{◌≡◌, ◌≢◌, ◌≤◌, ◌<◌, �
 ghost use Rattle.std.specs.IoError.{error_kind};
 ghost use Rattle.std.specs.Io.KnownBytes.{Appends, Consumes, IsAtEnd};
 ghost use Rattle.nk_outside.specs.Count.{counted, CountsFault};
-ghost use Rattle.nk_outside.specs.Held.{file_limit, Holds, SameElsewhere};
+ghost use Rattle.nk_outside.specs.Held.{file_limit, Reads, Holds, SameElsewhere};
 
 use crate::{FILE_LIMIT, Files, ReadFault, WriteFault};
 use nk_base::Text;
@@ -17,9 +17,9 @@ const BLOCK: usize = 65_536;
 /// The files of the system. They tell no content.
 ///
 /// Proved is what the clauses of [`Files`] say where nothing is told: how the counts go, and that what is read has at
-/// most [`FILE_LIMIT`] bytes. Of the loops inside it is proved that they take all that an opened file has left, and hand
-/// it each byte that is to be written. That the calls run them on the file of the name, and that the system gives what
-/// it holds and keeps what it takes, no clause says: it is tested. A name that isn't UTF-8 fails, and is never absent.
+/// most [`FILE_LIMIT`] bytes; and, where the system's files tell their bytes, that a read takes all that one of them has
+/// left, and a write hands one each byte. That it is the file of the name, and that the system gives what it holds and
+/// keeps what it takes, no clause says: it is tested. A name that isn't UTF-8 fails, and is never absent.
 #[derive(Drop)]
 pub struct OsFiles<R> {
     /// What opens files.
@@ -119,7 +119,18 @@ impl<R: rt::Files> Files for OsFiles<R> {
 
     ghost counts = { λ f. record { calls = f.calls; read_faults = f.read_faults; write_faults = f.write_faults; absents = f.absents } };
 
-    fn read(&mut self, alloc: Global, name: &Text) -> Result<Vec<u8>, ReadFault> {
+    /// Beside what each read promises: the bytes are all that some file of the system had left, where that is told. That
+    /// it is the file of the name, no clause says.
+    fn read(&mut self, alloc: Global, name: &Text) -> Result<Vec<u8>, ReadFault>
+        ensures bytes { IfOk result (λ bytes. Reads None name.now bytes.items) }
+        ensures calls { self.new.calls ≡ counted self.old.calls }
+        ensures failed { CountsFault self.old.read_faults self.new.read_faults (IsErrOf result ReadFault.Failed) }
+        ensures absent { CountsFault self.old.absents self.new.absents (IsErrOf result ReadFault.Absent) }
+        ensures kept { result ≢ Err ReadFault.Failed → self.new.read_faults ≡ self.old.read_faults }
+        ensures found { result ≢ Err ReadFault.Absent → self.new.absents ≡ self.old.absents }
+        ensures writes { self.new.write_faults ≡ self.old.write_faults }
+        ensures whole { IfOk result (λ bytes. (file : R.File) × (after : R.File) × Consumes (R.File.remaining file) (R.File.remaining after) bytes.items × IsAtEnd (R.File.remaining after)) }
+    {
         self.calls = self.calls.saturating_add(1);
         let answer = match open(&self.system, name) {
             Ok(mut file) => read_all(alloc, &mut file),
@@ -133,7 +144,9 @@ impl<R: rt::Files> Files for OsFiles<R> {
         answer
     }
 
-    /// Beside what each write promises: the one fault is `Failed`, also where the system is short of memory.
+    /// Beside what each write promises: where it succeeds some file of the system took each byte in order, where that is
+    /// told, and the one fault is `Failed`, also where the system is short of memory. That it is the file of the name, no
+    /// clause says.
     fn write(&mut self, _alloc: Global, name: &Text, bytes: &[u8]) -> Result<(), WriteFault>
         ensures holds { OnOk result (Holds None name.now bytes.now) }
         ensures others { SameElsewhere name.now None None }
@@ -143,6 +156,7 @@ impl<R: rt::Files> Files for OsFiles<R> {
         ensures reads { self.new.read_faults ≡ self.old.read_faults }
         ensures absents { self.new.absents ≡ self.old.absents }
         ensures fault { OnErr result (result ≡ Err WriteFault.Failed) }
+        ensures whole { OnOk result ((file : R.File) × (after : R.File) × Appends (R.File.contents file) (R.File.contents after) bytes.now) }
     {
         self.calls = self.calls.saturating_add(1);
         if let Ok(path) = str::from_utf8(name.as_bytes())

@@ -36,7 +36,8 @@ impl<W: Write> Sink for OsSink<W> {
 
     ghost faults = { λ s. s.faults };
 
-    /// Beside what each put promises: it hands the piece to the writer, and after a fault a front of it.
+    /// Beside what each put promises: it hands the whole piece to the writer, in as many calls as that takes, and where
+    /// the writer fails or takes nothing a front of it. The one fault is `Failed`.
     fn put(&mut self, _alloc: Global, piece: &[u8]) -> Result<(), WriteFault>
         ensures ok { OnOk result (Took None None piece.now) }
         ensures err { OnErr result (TookFront None None piece.now) }
