@@ -1,26 +1,10 @@
 -- What stands in front of bytes: a line with its line feed, a comment up to its `*/`, one thing that separates tokens.
-use Rattle.std.proofs.Common.{◌≡◌, ◌∙◌, ap, refl, sym, subst, ℕ, eqb, not, ◌&&◌, Bool, true, false, List, [], ◌∷◌, ◌++◌, length, ◌-◌, take, drop, IsTrue, arith, eqb-true, take-append-drop, take_at, Option, Some, None, MatchOption, Bor}
+use Rattle.std.proofs.Common.{◌≡◌, ◌∙◌, ap, refl, sym, subst, ℕ, eqb, not, ◌&&◌, Bool, true, false, List, [], ◌∷◌, ◌++◌, IsTrue, arith, eqb-true, Option, Some, None, MatchOption, Bor}
 use Rattle.std.proofs.lemmas.Bool.{and_parts, and_from, both_ways, not_from_false, or_left, false_from_ne_true}
-use Rattle.std.proofs.lemmas.List.{take_rest}
-use Rattle.std.specs.Cmp.Lexicographic.{bytes_decides}
 use Rattle.nk_base.specs.Byte.{is_gap}
-use Rattle.nk_base.specs.Text.{text_eq}
 use Rattle.nml_lex.specs.Cut.{Begins, BeginsNone}
 use Rattle.nml_lex.specs.Form.{is_ended, is_shut, is_space}
 use Rattle.nml_lex.proofs.Spaces.{Form, Blank, Line, Block, form_of, no_gap}
-
--- ---- a prefix
-
--- whether bytes begin with a prefix
-pub prefix_found : (bytes prefix : List ℕ) → text_eq prefix (take (length prefix) bytes) ≡ true → bytes ≡ prefix ++ take (length bytes - length prefix) (drop (length prefix) bytes)
-prefix_found bytes prefix h =
-    sym (take-append-drop (length prefix) bytes) ∙ ap (λ t. t ++ drop (length prefix) bytes) (sym ((bytes_decides prefix (take (length prefix) bytes)).0 h))
-    ∙ ap (λ t. prefix ++ t) (sym (take_rest bytes (length prefix)))
-
-pub prefix_none : (bytes prefix : List ℕ) → text_eq prefix (take (length prefix) bytes) ≡ false → (rest : List ℕ) → bytes ≡ prefix ++ rest → ⊥
-prefix_none bytes prefix h rest e =
-    let same : prefix ≡ take (length prefix) bytes = sym (take_at prefix rest (length prefix) refl) ∙ ap (take (length prefix)) (sym e) in
-    both_ways (text_eq prefix (take (length prefix) bytes)) h ((bytes_decides prefix (take (length prefix) bytes)).1 same)
 
 -- the bytes begin as the rest does
 pub record Narrows (test : List ℕ → Bool) (bytes rest : List ℕ) : Type 0 where

@@ -10,6 +10,7 @@ use Rattle.std.specs.List.{list_all, prefix_len}
 use Rattle.nk_base.specs.Byte.{is_name_start, is_name_byte}
 use Rattle.nml_lex.specs.Form.{is_name, is_prefixed, are_digits, is_decimal, is_hexadecimal, is_binary, is_binary_digit, is_number, is_quoted, is_string, is_closed, is_mark, is_token, marks, longest, longest_of}
 use Rattle.nml_lex.proofs.Words.{among, no_mark, no_name, no_number, no_string}
+use Rattle.nk_base.proofs.DigitsValue.{digit_is_no_name_start}
 
 -- ---- the longest token in front
 
@@ -93,12 +94,6 @@ longest_name [] h = absurd (cc)
 longest_name (c ∷ cs) h =
     longest_is (c ∷ cs) (suc (prefix_len is_name_byte cs)) (name_longest c cs h) ∙ sym (length-prefix_len is_name_byte (c ∷ cs) ∙ run_more is_name_byte c cs (or_left (is_name_start c) (is_ascii_digit c) h))
 
--- ---- numbers
-
--- a digit begins neither a name nor a string
-pub digit_start : (c : ℕ) → is_ascii_digit c ≡ true → is_name_start c ≡ false
-digit_start c h = grind (arith, nat_tests)
-
 pub digit_quote : (c : ℕ) → is_ascii_digit c ≡ true → eqb c 34 ≡ false
 digit_quote c h = grind (arith, nat_tests)
 
@@ -119,7 +114,7 @@ only_last a b c h g = ap (λ x. x || (b || c)) h ∙ ap (λ x. x || c) g
 -- a token that begins with a digit is a number
 pub number_token : (c : ℕ) (t : List ℕ) → is_ascii_digit c ≡ true → is_token (c ∷ t) ≡ is_number (c ∷ t)
 number_token c t h =
-    only_middle (is_name (c ∷ t)) (is_number (c ∷ t)) (is_string (c ∷ t) || is_mark (c ∷ t)) (no_name c t (digit_start c h))
+    only_middle (is_name (c ∷ t)) (is_number (c ∷ t)) (is_string (c ∷ t) || is_mark (c ∷ t)) (no_name c t (digit_is_no_name_start c h))
     (or_from (is_string (c ∷ t)) (is_mark (c ∷ t)) (no_string c t (digit_quote c h)) (no_mark is_ascii_digit refl c t h))
 
 -- a text that is not empty has digits where each byte is one

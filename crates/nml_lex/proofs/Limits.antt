@@ -1,37 +1,16 @@
 -- What a number is worth, and whether a token is within its limit.
-use Rattle.std.proofs.Common.{◌≡◌, ◌∙◌, ap, refl, sym, ℕ, ◌+◌, ◌*◌, ◌<◌, ◌≤◌, ◌^◌, cond, eqb, nat_le, nat_lt, ◌||◌, Bool, true, false, List, [], ◌∷◌, length, get_or, take, drop, slice_get, IsTrue, Option, Some, None, is_some, arith}
-use Rattle.std.proofs.lemmas.Bool.{and_parts, both_ways, cond-true, cond-false, cond_below, cond_above, true_from_ne_false}
+use Rattle.std.proofs.Common.{◌≡◌, ◌∙◌, ap, refl, sym, ℕ, ◌^◌, cond, eqb, nat_le, nat_lt, ◌||◌, Bool, true, false, List, [], ◌∷◌, length, get_or, drop, slice_get, IsTrue, Option, Some, None, is_some, arith}
+use Rattle.std.proofs.lemmas.Bool.{and_parts, both_ways, cond-true, cond-false, true_from_ne_false}
 use Rattle.std.proofs.lemmas.Bool.Decides.{nat_tests}
-use Rattle.std.proofs.lemmas.Int.Digits.{digits_value_more}
 use Rattle.std.proofs.lemmas.List.Folds.{list_all_at}
-use Rattle.std.proofs.lemmas.List.{take_all}
-use Rattle.std.proofs.lemmas.Str.Parse.{digits_value-take-le}
-use Rattle.std.specs.Char.{digit_value, is_digit, is_ascii_digit, is_ascii_hexdigit}
+use Rattle.std.specs.Char.{is_digit, is_ascii_digit, is_ascii_hexdigit}
 use Rattle.std.specs.List.{AllPass, list_all}
 use Rattle.std.specs.Str.Parse.{digits_value}
 use Rattle.nk_base.specs.Byte.{is_name_start}
 use Rattle.nml_lex.specs.Form.{are_digits, is_binary_digit, is_binary, is_decimal, is_hexadecimal, is_name, is_number, is_string, is_token, is_within, number_of}
 use Rattle.nml_lex.proofs.Words.{no_name, no_number, no_string}
-use Rattle.nml_lex.proofs.Lengths.{IsPrefix, hexadecimal_prefix, binary_prefix, other_prefix, number_token, only_first, no_other, digit_start}
-
--- ---- what digits write
-
--- a number that has reached m on the way is not below it at the end
-pub outgrown : (m r : ℕ) (ds : List ℕ) (i v : ℕ) → 1 ≤ r → i < length ds → v ≡ digits_value r (take i ds) → m ≤ v * r + digit_value (get_or ds i 0)
-    → None ≡ cond (nat_lt (digits_value r ds) m) (Some (digits_value r ds)) None
-outgrown m r ds i v some h e over =
-    let step : digits_value r (take (i + 1) ds) ≡ v * r + digit_value (get_or ds i 0) = digits_value_more r ds i h ∙ ap (λ n. n * r + digit_value (get_or ds i 0)) (sym e) in
-    cond_above (digits_value r ds) m (Some (digits_value r ds)) None None (omega (arith, digits_value-take-le r ds (i + 1) some)) refl
-
--- the number that all the digits write
-pub whole : (m r : ℕ) (ds : List ℕ) (i v : ℕ) → length ds ≤ i → v < m → v ≡ digits_value r (take i ds) → Some v ≡ cond (nat_lt (digits_value r ds) m) (Some (digits_value r ds)) None
-whole m r ds i v h small e =
-    let all : v ≡ digits_value r ds = e ∙ ap (digits_value r) (take_all i ds h) in
-    ap Some all ∙ cond_below (digits_value r ds) m (Some (digits_value r ds)) None (omega arith)
-
--- one digit more
-pub one_more : (r : ℕ) (ds : List ℕ) (i v : ℕ) → i < length ds → v ≡ digits_value r (take i ds) → v * r + digit_value (get_or ds i 0) ≡ digits_value r (take (i + 1) ds)
-one_more r ds i v h e = ap (λ n. n * r + digit_value (get_or ds i 0)) e ∙ sym (digits_value_more r ds i h)
+use Rattle.nml_lex.proofs.Lengths.{IsPrefix, hexadecimal_prefix, binary_prefix, other_prefix, number_token, only_first, no_other}
+use Rattle.nk_base.proofs.DigitsValue.{digit_is_no_name_start, decimal_digit}
 
 -- ---- the digits of a number
 
@@ -44,9 +23,6 @@ hexadecimal_digit c h = grind (arith, nat_tests)
 
 binary_digit : (c : ℕ) → is_binary_digit c ≡ true → is_digit c 2 ≡ true
 binary_digit c h = grind (arith, nat_tests)
-
-decimal_digit : (c : ℕ) → is_ascii_digit c ≡ true → is_digit c 10 ≡ true
-decimal_digit c h = grind (arith, nat_tests)
 
 -- these digits write the number
 pub record IsWorth (text ds : List ℕ) (r : ℕ) : Type 0 where
@@ -120,7 +96,7 @@ some_below n m = choice (nat_lt n m) n where
 
 pub number_at : (c : ℕ) (t : List ℕ) → is_ascii_digit c ≡ true → IsTrue (is_token (c ∷ t)) → nat_lt (number_of (c ∷ t)) (2 ^ 64) ≡ is_within (c ∷ t)
 number_at c t h k =
-    sym (cond-false (is_name (c ∷ t)) (nat_le (length (c ∷ t)) 64) _ (no_name c t (digit_start c h)) ∙ cond-true (is_number (c ∷ t)) (nat_lt (number_of (c ∷ t)) (2 ^ 64)) _ (sym (number_token c t h) ∙ k))
+    sym (cond-false (is_name (c ∷ t)) (nat_le (length (c ∷ t)) 64) _ (no_name c t (digit_is_no_name_start c h)) ∙ cond-true (is_number (c ∷ t)) (nat_lt (number_of (c ∷ t)) (2 ^ 64)) _ (sym (number_token c t h) ∙ k))
 
 pub number_within : (text : List ℕ) (c : ℕ) (b : Bool) (found : Option ℕ) → Some c ≡ slice_get text 0 → is_ascii_digit c ≡ true → IsTrue (is_token text) → b ≡ is_some found
     → found ≡ cond (nat_lt (number_of text) (2 ^ 64)) (Some (number_of text)) None → b ≡ is_within text

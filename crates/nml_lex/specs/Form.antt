@@ -113,14 +113,14 @@ is_block_comment (c ∷ []) = false
 is_block_comment (c ∷ d ∷ cs) = (c == 47) && (d == 42) && is_shut cs
 
 -- a blank, a tab, a carriage return or a line feed
-abbrev pub is_blank : List ℕ → Bool
-is_blank [] = false
-is_blank (c ∷ []) = is_gap c
-is_blank (c ∷ d ∷ cs) = false
+abbrev pub is_one_gap : List ℕ → Bool
+is_one_gap [] = false
+is_one_gap (c ∷ []) = is_gap c
+is_one_gap (c ∷ d ∷ cs) = false
 
 -- one thing that separates tokens
 abbrev pub is_space : List ℕ → Bool
-is_space text = is_blank text || (is_line_comment text || is_block_comment text)
+is_space text = is_one_gap text || (is_line_comment text || is_block_comment text)
 
 -- the end of the bytes: nothing, or a comment from `//` without a line feed
 abbrev pub is_end : List ℕ → Bool

@@ -46,7 +46,8 @@ no_block = refl
 last_line : is_end (codes "// x") ≡ true
 last_line = refl
 
-abbrev word : {text rest : List ℕ} → IsTrue (is_token text) → longest (text ++ rest) ≡ length text → IsTrue (is_within text) → IsWord text rest
+-- a token in front of a rest
+abbrev pub word : {text rest : List ℕ} → IsTrue (is_token text) → longest (text ++ rest) ≡ length text → IsTrue (is_within text) → IsWord text rest
 word a b c = record { token = a; longest_is = b; within = c }
 
 -- ` op//\nf` has two tokens, at 1 and at 6

@@ -3,7 +3,6 @@
 
 mod law;
 mod limit;
-mod prefix;
 mod scan;
 mod space;
 mod word;

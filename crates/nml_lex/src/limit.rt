@@ -6,8 +6,8 @@ ghost use Rattle.std.specs.List.{AllPass};
 ghost use Rattle.std.specs.Str.Parse.{digits_value};
 ghost use Rattle.nml_lex.specs.Form as spec;
 
-use crate::prefix::behind_prefix;
 use nk_base::byte::is_name_start;
+use nk_base::{behind_prefix, number_up_to};
 
 /// The most characters that a name has.
 const NAME_LIMIT: usize = 64;
@@ -57,12 +57,8 @@ fn value_of(digits: &[u8], radix: u32) -> Option<u64>
     requires digits { AllPass (λ c. is_digit c radix) digits.now }
     ensures { result ≡ (if nat_lt (digits_value radix digits.now) (2 ^ 64) then Some (digits_value radix digits.now) else None) }
 {
-    let mut value: u64 = 0;
-    for digit in digits {
-        let digit = char::from(*digit).to_digit(radix)?;
-        value = value
-            .checked_mul(u64::from(radix))?
-            .checked_add(u64::from(digit))?;
+    match number_up_to(digits, radix, u128::from(u64::MAX)) {
+        Some(value) => Some(value as u64),
+        None => None,
     }
-    Some(value)
 }

@@ -6,7 +6,7 @@ ghost use Rattle.nml_lex.specs.Cut.{Begins, BeginsNone};
 ghost use Rattle.nml_lex.specs.Form.{is_ended, is_shut, is_space};
 ghost use Rattle.nml_lex.specs.Form as spec;
 
-use crate::prefix::behind_prefix;
+use nk_base::behind_prefix;
 use nk_base::byte::is_gap;
 
 /// What stands behind one blank or comment in front.

@@ -7,8 +7,8 @@ ghost use Rattle.nk_base.specs.Byte as byte;
 ghost use Rattle.nml_lex.specs.Form.{longest};
 ghost use Rattle.nml_lex.specs.Form as spec;
 
-use crate::prefix::behind_prefix;
 use nk_base::byte::{is_name_byte, is_name_start};
+use nk_base::{behind_prefix, digits_len};
 
 /// How many bytes make the longest token in front; 0 where none do.
 pub fn token_length(bytes: &[u8]) -> usize
@@ -46,7 +46,7 @@ fn number_length(bytes: &[u8]) -> usize
     if let Some(digits) = behind_prefix(bytes, b"0b") {
         return prefixed_length(binary_run(digits));
     }
-    decimal_run(bytes)
+    digits_len(bytes)
 }
 
 /// The length of a number with so many digits behind its prefix: without any, its 0 alone is one.
@@ -55,13 +55,6 @@ fn prefixed_length(digits: usize) -> usize
     ensures { result ≡ (if digits == 0 then 1 else 2 + digits) }
 {
     if digits == 0 { 1 } else { 2 + digits }
-}
-
-/// How many decimal digits are in front.
-fn decimal_run(bytes: &[u8]) -> usize
-    ensures { result ≡ length (take_while is_ascii_digit bytes.now) }
-{
-    bytes.iter().take_while(|c| c.is_ascii_digit()).count()
 }
 
 /// How many hexadecimal digits are in front.

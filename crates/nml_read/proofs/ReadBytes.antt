@@ -6,18 +6,19 @@ use Rattle.std.proofs.lemmas.List.{length-append}
 use Rattle.nml_tree.specs.declared.tree.Desc.{Desc}
 use Rattle.nml_tree.specs.declared.tree.Item.{Item}
 use Rattle.nml_tree.specs.declared.fault.DescFault.{DescFault}
-use Rattle.nml_tree.specs.declared.fault.DescFault.TheVariants as faults
-use Rattle.nml_tree.specs.Symbol.{Symbol}
+use Rattle.readings.specs.Symbol.{Symbol, first_place}
 use Rattle.nml_tree.specs.Floats.{float_places}
 use Rattle.nml_tree.specs.SpellsTree.{SpellsTree}
 use Rattle.nml_lex.specs.Lexed.{Part, Space, Word, BeginsWith, HasPieces, Piece, pieces, piece_of}
 use Rattle.nml_lex.specs.declared.scan.Token.{Token}
-use Rattle.nml_read.specs.Reading.{Found}
-use Rattle.nml_read.specs.ReadingItems.{item_list}
-use Rattle.nml_read.specs.declared.stop.Stop.TheVariants as stops
-use Rattle.nml_read.specs.Seen.{IsSound, Comes, Fails}
-use Rattle.nml_read.specs.Trees.{symbol, first_place, IsTree, HasNoTree, HasFloatFault, IsReadFault}
-use Rattle.nml_read.proofs.WholeTrees.{found_tree, stuck_tree}
+use Rattle.readings.specs.Reading.{Found}
+use Rattle.nml_grammar.specs.ReadingItems.{item_list}
+use Rattle.nml_read.specs.Seen.{IsSound}
+use Rattle.readings.specs.Seen.{Comes, Fails}
+use Rattle.nml_grammar.specs.Trees.{symbol, IsTree, HasNoTree, HasFloatFault, IsReadFault}
+use Rattle.nml_grammar.proofs.WholeTrees.{found_tree, stuck_tree}
+use Rattle.nml_tree.specs.declared.fault.DescFault.TheVariants as faults
+use Rattle.readings.specs.declared.stop.Stop.TheVariants as stops
 
 -- ---- tokens
 
@@ -68,10 +69,10 @@ has_no_tree bytes ps ss left at h is (rest, n_is, c) e =
     record {
       tokens = ps;
       has = h;
-      front = t.0;
+      front = t.front;
       left = rest;
-      whole = sym is ∙ t.1;
-      begins = t.2;
-      stops = t.3;
-      is = e ∙ ap (first_place (length bytes)) (ap (λ us. drop (length us - left) us) t.1 ∙ behind_front t.0 rest left n_is);
+      whole = sym is ∙ t.whole;
+      begins = t.begins;
+      stops = t.stops;
+      is = e ∙ ap (first_place (length bytes)) (ap (λ us. drop (length us - left) us) t.whole ∙ behind_front t.front rest left n_is);
     }

@@ -5,14 +5,15 @@ use Rattle.nml_tree.specs.declared.names.Name.{Name}
 use Rattle.nml_tree.specs.declared.tree.Item.{Item}
 use Rattle.nml_tree.specs.declared.tree.Pars.{Pars}
 use Rattle.nml_tree.specs.declared.tree.RuleWord.{RuleWord}
-use Rattle.nml_tree.specs.Symbol.{Symbol}
-use Rattle.nml_read.specs.Reading.{Read, Found, after, behind}
-use Rattle.nml_read.specs.Readings.{Reading, name}
-use Rattle.nml_read.specs.ReadingItems.{rule, rule_from, or_rule, pars, pars_from, some_pars}
-use Rattle.nml_read.specs.declared.stop.Stop.{Stop}
-use Rattle.nml_read.specs.declared.stop.Stop.TheVariants as stops
-use Rattle.nml_read.specs.Seen.{Comes, Fails, Says}
-use Rattle.nml_read.proofs.Saying.{goes_on, ends, says_alike, at_once}
+use Rattle.readings.specs.Symbol.{Symbol}
+use Rattle.readings.specs.Reading.{Read, Found, after, behind}
+use Rattle.readings.specs.Readings.{Reading}
+use Rattle.nml_grammar.specs.Words.{name}
+use Rattle.nml_grammar.specs.ReadingItems.{rule, rule_from, or_rule, pars, pars_from, some_pars}
+use Rattle.readings.specs.declared.stop.Stop.{Stop}
+use Rattle.readings.specs.Seen.{Comes, Fails, Says}
+use Rattle.readings.proofs.Saying.{goes_on, ends, says_alike, at_once}
+use Rattle.readings.specs.declared.stop.Stop.TheVariants as stops
 
 -- ---- what goes on behind what was found, said of both
 

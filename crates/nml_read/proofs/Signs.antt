@@ -3,13 +3,14 @@ use Rattle.std.proofs.Common.{◌≡◌, refl, sym, ◌∙◌, ap, subst, ℕ, �
 use Rattle.std.proofs.lemmas.Bool.{cond-true, cond-false}
 use Rattle.std.specs.Char.{is_ascii_digit}
 use Rattle.nk_base.specs.Byte.{is_name_start}
-use Rattle.nml_tree.specs.Symbol.{Symbol}
+use Rattle.readings.specs.Symbol.{Symbol}
 use Rattle.nml_lex.specs.Form.{is_token, is_within, is_name, is_number, is_string, is_closed, number_of}
 use Rattle.nml_lex.specs.Lexed.{Piece}
 use Rattle.nml_lex.proofs.Words.{no_name, no_number, no_string}
-use Rattle.nml_lex.proofs.Lengths.{no_other, digit_start, string_token}
+use Rattle.nk_base.proofs.DigitsValue.{digit_is_no_name_start}
+use Rattle.nml_lex.proofs.Lengths.{no_other, string_token}
 use Rattle.nml_lex.proofs.Limits.{first_byte, cut_first, number_first, number_at}
-use Rattle.nml_read.specs.Trees.{symbol, word_symbol, unquoted}
+use Rattle.nml_grammar.specs.Trees.{symbol, word_symbol, unquoted}
 
 abbrev piece : ℕ → List ℕ → Piece
 piece at text = record { at = at; text = text }
@@ -40,7 +41,7 @@ value_is text c found e h k w f =
 
 pub number_is : (at : ℕ) (text : List ℕ) (c : ℕ) → Some c ≡ slice_get text 0 → is_ascii_digit c ≡ true → IsTrue (is_token text) → Symbol.Number at (number_of text) ≡ symbol (piece at text)
 number_is at text c e h k =
-    sym (not_named at text c e (digit_start c h) ∙ cond-true (is_number text) (Symbol.Number at (number_of text)) _ (number_first text c e h k))
+    sym (not_named at text c e (digit_is_no_name_start c h) ∙ cond-true (is_number text) (Symbol.Number at (number_of text)) _ (number_first text c e h k))
 
 -- a string has its two quotes
 closed_some : (t : List ℕ) → is_closed t ≡ true → 1 ≤ length t

@@ -1,13 +1,3 @@
-pub mod Reading
-pub mod ReadingStatements
-pub mod Readings
-pub mod ReadingItems
 pub mod Trees
-pub mod Unplaced
-pub mod Sample
-pub mod SampleItems
-pub mod SampleBytes
 pub mod Seen
 pub mod SeenWords
-pub mod Forms
-pub mod SeenStatements

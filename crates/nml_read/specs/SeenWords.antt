@@ -1,8 +1,8 @@
 -- The words of the reader as definitions see them. Private: its contracts cite it.
-use Rattle.nml_read.specs.ReadingItems as items
 use Rattle.nml_read.specs.declared.types.Kind.{Kind}
-use Rattle.nml_read.specs.declared.types.Kind.TheVariants as kinds
 use Rattle.nml_read.specs.declared.item.Opening.{Opening}
+use Rattle.nml_grammar.specs.ReadingItems as items
+use Rattle.nml_read.specs.declared.types.Kind.TheVariants as kinds
 use Rattle.nml_read.specs.declared.item.Opening.TheVariants as openings
 use Rattle.nml_tree.specs.declared.tree.StorageWord.TheVariants as storage_words
 use Rattle.nml_tree.specs.declared.tree.PortWord.TheVariants as port_words

@@ -1,18 +1,16 @@
 //! The attributes of a rule, from symbols.
 ghost use Rattle.std.specs.Prelude.{◌≡◌, ◌<◌, ◌≤◌, length, map, IfOk, codes};
 ghost use Rattle.std.specs.Option.{option_map};
-ghost use Rattle.nml_read.specs.Reading.{Found, looked_up};
-ghost use Rattle.nml_read.specs.Readings.{◌>>>◌, sign, further, optional};
-ghost use Rattle.nml_read.specs.ReadingItems.{attribute_words};
-ghost use Rattle.nml_read.specs.ReadingItems as items;
-ghost use Rattle.nml_read.specs.Seen.{seen, Says};
+ghost use Rattle.readings.specs.Reading.{Found, looked_up};
+ghost use Rattle.readings.specs.Readings.{◌>>>◌, sign, further, optional};
+ghost use Rattle.nml_grammar.specs.ReadingItems.{attribute_words};
+ghost use Rattle.readings.specs.Seen.{seen, Says};
+ghost use Rattle.nml_grammar.specs.ReadingItems as items;
 
-use crate::front::{behind, mark, name, string};
-use crate::sign::Sign;
-use crate::statement::statements;
-use crate::stop::Stop;
 use nk_base::Text;
+use nml_statement::{name, statements, string};
 use nml_tree::{Action, Arg, Attribute, Attrs, Name, Quoted, Stmt, Template};
+use readings::{Sign, Stop, behind, mark};
 use sqlite_items::Items;
 use std::alloc::Global;
 

@@ -1,17 +1,18 @@
 //! The description that bytes spell.
 ghost use Rattle.std.specs.Prelude.{◌≡◌, ◌≤◌, ◌-◌, [], drop, length, map, MatchResult};
 ghost use Rattle.nml_tree.specs.Floats.{float_places};
-ghost use Rattle.nml_read.specs.Reading.{Found};
-ghost use Rattle.nml_read.specs.ReadingItems.{item_list};
-ghost use Rattle.nml_read.specs.Seen.{seen, Says};
-ghost use Rattle.nml_read.specs.Trees.{first_place, place, HasFloatFault, IsTree, IsReadFault};
+ghost use Rattle.readings.specs.Reading.{Found};
+ghost use Rattle.nml_grammar.specs.ReadingItems.{item_list};
+ghost use Rattle.readings.specs.Seen.{seen, Says};
+ghost use Rattle.readings.specs.Symbol.{first_place, place};
+ghost use Rattle.nml_grammar.specs.Trees.{HasFloatFault, IsTree, IsReadFault};
 
 use crate::float::first_float;
 use crate::item::item;
-use crate::sign::{Sign, signs};
-use crate::stop::Stop;
+use crate::sign::signs;
 use nml_lex::lex;
 use nml_tree::{Desc, DescFault, Item};
+use readings::{Sign, Stop};
 use sqlite_items::Items;
 use std::alloc::Global;
 

@@ -2,7 +2,7 @@
 
 ghost use Rattle.std.specs.Prelude.{flat_map, map};
 ghost use Rattle.nml_tree.specs.Floats.{float_place, float_places, item_types, par_types};
-ghost use Rattle.nml_read.specs.Trees.{IsFirst};
+ghost use Rattle.nml_grammar.specs.Trees.{IsFirst};
 
 use nml_tree::{Desc, Item, Par, Pars, TypeExpr};
 

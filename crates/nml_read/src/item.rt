@@ -1,18 +1,17 @@
 //! Items, from symbols.
 ghost use Rattle.std.specs.Prelude.{◌≡◌, ◌<◌, ◌≤◌, length, map, IfOk};
 ghost use Rattle.std.specs.Option.{option_map};
-ghost use Rattle.nml_read.specs.Reading.{Found, looked_up};
-ghost use Rattle.nml_read.specs.ReadingItems.{behind_opening, openings};
-ghost use Rattle.nml_read.specs.ReadingItems as items;
+ghost use Rattle.readings.specs.Reading.{Found, looked_up};
+ghost use Rattle.nml_grammar.specs.ReadingItems.{behind_opening, openings};
 ghost use Rattle.nml_read.specs.SeenWords.{seen_opening};
-ghost use Rattle.nml_read.specs.Seen.{seen, Says, Comes};
+ghost use Rattle.readings.specs.Seen.{seen, Says, Comes};
+ghost use Rattle.nml_grammar.specs.ReadingItems as items;
 
-use crate::front::{behind, mark, name, number, size};
 use crate::rules::{mode, op};
-use crate::sign::Sign;
-use crate::stop::Stop;
 use crate::types::type_read;
+use nml_statement::{name, number, size};
 use nml_tree::{Item, Port, PortWord, Storage, StorageWord};
+use readings::{Sign, Stop, behind, mark};
 use std::alloc::Global;
 
 /// What an item begins with.

@@ -1,15 +1,14 @@
 //! The parameters of a rule, from symbols.
 ghost use Rattle.std.specs.Prelude.{◌<◌, ◌≤◌, length, map, IfOk, codes};
-ghost use Rattle.nml_read.specs.Reading.{Found};
-ghost use Rattle.nml_read.specs.Readings.{further};
-ghost use Rattle.nml_read.specs.ReadingItems as items;
-ghost use Rattle.nml_read.specs.Seen.{seen, Says};
+ghost use Rattle.readings.specs.Reading.{Found};
+ghost use Rattle.readings.specs.Readings.{further};
+ghost use Rattle.readings.specs.Seen.{seen, Says};
+ghost use Rattle.nml_grammar.specs.ReadingItems as items;
 
-use crate::front::{behind, mark, name};
-use crate::sign::Sign;
-use crate::stop::Stop;
 use crate::types::type_read;
+use nml_statement::name;
 use nml_tree::{Par, Pars};
+use readings::{Sign, Stop, behind, mark};
 use sqlite_items::Items;
 use std::alloc::Global;
 

@@ -1,19 +1,17 @@
 //! Rules, from symbols.
 ghost use Rattle.std.specs.Prelude.{◌<◌, ◌≤◌, length, map, IfOk, codes};
+ghost use Rattle.readings.specs.Reading.{Found};
+ghost use Rattle.readings.specs.Readings.{◌>>>◌, further};
+ghost use Rattle.readings.specs.Seen.{seen, Says};
 ghost use Rattle.nml_tree.specs.declared.tree.RuleWord.TheVariants as rule_words;
-ghost use Rattle.nml_read.specs.Reading.{Found};
-ghost use Rattle.nml_read.specs.Readings.{◌>>>◌, further};
-ghost use Rattle.nml_read.specs.Readings as spec;
-ghost use Rattle.nml_read.specs.ReadingItems as items;
-ghost use Rattle.nml_read.specs.Seen.{seen, Says};
+ghost use Rattle.nml_grammar.specs.Words as spec;
+ghost use Rattle.nml_grammar.specs.ReadingItems as items;
 
 use crate::attributes::attrs;
-use crate::expression::whole;
-use crate::front::{behind, mark, name};
 use crate::parameters::pars;
-use crate::sign::Sign;
-use crate::stop::Stop;
+use nml_statement::{name, whole};
 use nml_tree::{Expr, Item, ModeRule, Name, OpRule, OrRule, RuleWord};
+use readings::{Sign, Stop, behind, mark};
 use sqlite_items::Items;
 use std::alloc::Global;
 

@@ -1,27 +1,16 @@
 //! The symbols of tokens.
 ghost use Rattle.std.specs.Prelude.{◌≡◌, IfOk, map, All};
 ghost use Rattle.nml_lex.specs.Lexed.{piece_of};
-ghost use Rattle.nml_read.specs.Seen.{seen, IsSound};
-ghost use Rattle.nml_read.specs.Trees.{symbol, word_symbol};
+ghost use Rattle.readings.specs.Seen.{seen};
+ghost use Rattle.nml_read.specs.Seen.{IsSound};
+ghost use Rattle.nml_grammar.specs.Trees.{symbol, word_symbol};
 
 use nk_base::Memory;
 use nk_base::byte::is_name_start;
 use nml_lex::{Token, number_value};
 use nml_tree::is_keyword;
+use readings::Sign;
 use std::alloc::Global;
-
-/// A symbol of the grammar and its place; a text is the token's, without quotes where it is a string's.
-#[derive(Clone, Copy)]
-pub enum Sign<'a> {
-    /// A keyword or a mark.
-    Fixed(u32, &'a [u8]),
-    /// A name.
-    Named(u32, &'a [u8]),
-    /// A number by its value.
-    Number(u32, u64),
-    /// A string.
-    Quoted(u32, &'a [u8]),
-}
 
 /// The symbols of tokens.
 pub fn signs<'a>(alloc: Global, tokens: &[Token<'a>]) -> Result<Vec<Sign<'a>>, Memory>

@@ -1,19 +1,18 @@
 //! Types, from symbols.
 ghost use Rattle.std.specs.Prelude.{◌≡◌, ◌<◌, ◌≤◌, length, map, IfOk, codes};
 ghost use Rattle.std.specs.Option.{option_map};
-ghost use Rattle.nml_read.specs.Reading.{Found, looked_up};
-ghost use Rattle.nml_read.specs.Readings.{◌>>>◌, sign};
-ghost use Rattle.nml_read.specs.Readings as spec;
-ghost use Rattle.nml_read.specs.ReadingItems.{behind_kind, kinds};
-ghost use Rattle.nml_read.specs.ReadingItems as items;
+ghost use Rattle.readings.specs.Reading.{Found, looked_up};
+ghost use Rattle.readings.specs.Readings.{◌>>>◌, sign};
+ghost use Rattle.nml_grammar.specs.ReadingItems.{behind_kind, kinds};
 ghost use Rattle.nml_read.specs.SeenWords.{seen_kind};
-ghost use Rattle.nml_read.specs.Seen.{seen, Says};
+ghost use Rattle.readings.specs.Seen.{seen, Says};
+ghost use Rattle.nml_grammar.specs.Words as spec;
+ghost use Rattle.nml_grammar.specs.ReadingItems as items;
 
-use crate::front::{mark, size};
-use crate::sign::Sign;
-use crate::stop::Stop;
 use nk_base::Text;
+use nml_statement::size;
 use nml_tree::{Name, Size, TypeExpr};
+use readings::{Sign, Stop, mark};
 use std::alloc::Global;
 
 /// What a type begins with if it is no name.

@@ -11,4 +11,4 @@ returns-in-Some-behind_prefix c =
     c.prefixed_length-in-Some-behind_prefix.ensures ∙ ap (λ n. cond (eqb n 0) 1 (2 + n)) c.binary_run.ensures ∙ sym (longest_binary c.args.bytes.now c.in-Some-behind_prefix.digits.now c.in-Some-behind_prefix.ensures)
 
 pub returns : goal.returns
-returns c = c.decimal_run.ensures ∙ sym (longest_decimal c.args.bytes.now c.requires c.in_default.ensures c.in_default-behind_prefix.ensures)
+returns c = c.digits_len.ensures.run ∙ sym (longest_decimal c.args.bytes.now c.requires c.in_default.ensures c.in_default-behind_prefix.ensures)

@@ -1,7 +1,7 @@
 -- An action is found where its word is in front.
 use Rattle.std.proofs.Common.{sym}
 use Rattle.std.proofs.lemmas.Result.{err_from_is_err_and}
-use Rattle.nml_read.proofs.Saying.{makes, fails_made, present, fails_present}
+use Rattle.readings.proofs.Saying.{makes, fails_made, present, fails_present}
 use Rattle.nml_read.proofs.attributes.action.Goals as goal
 
 pub returns-in_err-equals-in-Some-clause-says : goal.returns-in_err-equals-in-Some-clause-says

@@ -1,7 +1,7 @@
 -- One thing more, or the end.
 use Rattle.std.proofs.Common.{sym, arith}
 use Rattle.std.proofs.lemmas.Result.{err_from_is_err_and}
-use Rattle.nml_read.proofs.Furthering.{goes_step, goes_end, goes_fails, goes_with}
+use Rattle.readings.proofs.Furthering.{goes_step, goes_end, goes_fails, goes_with}
 use Rattle.nml_read.proofs.attributes.arguments.Goals as goal
 
 pub loop-comma-preserved : goal.loop-comma-preserved

@@ -1,10 +1,10 @@
 -- No other symbol is one.
 use Rattle.std.proofs.Common.{◌∷◌, ◌∙◌, ap, sym, refl}
-use Rattle.nml_read.specs.ReadingItems as items
-use Rattle.nml_read.specs.declared.sign.Sign.TheVariants as lent
-use Rattle.nml_read.proofs.Fronts.{comes_stuck}
-use Rattle.nml_read.specs.Readings.{given}
-use Rattle.nml_read.proofs.Saying.{none_among, nothing}
+use Rattle.readings.proofs.Fronts.{comes_stuck}
+use Rattle.readings.specs.Readings.{given}
+use Rattle.readings.proofs.Saying.{none_among, nothing}
+use Rattle.nml_grammar.specs.ReadingItems as items
+use Rattle.readings.specs.declared.sign.Sign.TheVariants as lent
 use Rattle.nml_read.proofs.attributes.attribute.Goals as goal
 
 pub returns-in-Named-clause-says : goal.returns-in-Named-clause-says

@@ -1,6 +1,6 @@
 -- Each stop is the reading's, and what is found is what it finds.
 use Rattle.std.proofs.lemmas.Result.{err_from_is_err_and}
-use Rattle.nml_read.proofs.Saying.{both, fails, fails_behind}
+use Rattle.readings.proofs.Saying.{both, fails, fails_behind}
 use Rattle.nml_read.proofs.attributes.body.Goals as goal
 
 pub returns-in_err-stmts-clause-says : goal.returns-in_err-stmts-clause-says

@@ -1,6 +1,6 @@
 -- The statements of a block are those that were found.
 use Rattle.nml_tree.proofs.Back.{stmts_of-block}
-use Rattle.nml_read.proofs.Saying.{says_made}
+use Rattle.readings.proofs.Saying.{says_made}
 use Rattle.nml_read.proofs.attributes.stmts.Goals as goal
 
 pub returns-clause-says : goal.returns-clause-says

@@ -2,12 +2,12 @@
 use Rattle.std.proofs.Common.{ℕ, List, ◌≡◌, ◌∷◌, ◌∙◌, ap, sym, refl, true, false, Some, [], if◌then◌else◌}
 use Rattle.std.specs.Prelude.{codes}
 use Rattle.nk_base.specs.Text.{text_eq}
-use Rattle.nml_tree.specs.Symbol.{Symbol}
-use Rattle.nml_read.specs.Reading.{Stuck, looked_up}
-use Rattle.nml_read.specs.Readings.{worded_from}
-use Rattle.nml_read.specs.ReadingItems as items
-use Rattle.nml_read.specs.declared.sign.Sign.TheVariants as lent
-use Rattle.nml_read.proofs.Fronts.{comes_stuck, says_behind}
+use Rattle.readings.specs.Symbol.{Symbol}
+use Rattle.readings.specs.Reading.{Stuck, looked_up}
+use Rattle.readings.specs.Readings.{worded_from}
+use Rattle.readings.proofs.Fronts.{comes_stuck, says_behind}
+use Rattle.nml_grammar.specs.ReadingItems as items
+use Rattle.readings.specs.declared.sign.Sign.TheVariants as lent
 use Rattle.nml_read.proofs.attributes.template.Goals as goal
 
 -- behind the word `format`

@@ -1,17 +1,18 @@
 -- One item more, or the end.
 use Rattle.std.proofs.Common.{sym}
 use Rattle.std.proofs.lemmas.Result.{err_from_is_err_and}
-use Rattle.nml_read.proofs.WholeReading.{continues_step, continues_end, continues_fails, none_left, some_left}
+use Rattle.readings.proofs.Continuing.{continues_step, continues_end, continues_fails, none_left, some_left}
+use Rattle.nml_grammar.specs.ReadingItems.{item}
 use Rattle.nml_read.proofs.description.items.Goals as goal
 
 pub loop-rest-preserved : goal.loop-rest-preserved
 loop-rest-preserved c =
-    continues_step _ _ _ _ _ _ (some_left c.loop-rest.rest.now c.is_empty.result c.is_empty.ensures c.loop-rest-test.true) (sym c.in_ok-push.ensures.ok) c.loop-rest.invariant c.in_ok-item.ensures.says
+    continues_step item _ _ _ _ _ _ (some_left c.loop-rest.rest.now c.is_empty.result c.is_empty.ensures c.loop-rest-test.true) (sym c.in_ok-push.ensures.ok) c.loop-rest.invariant c.in_ok-item.ensures.says
 
 pub returns-in_err-item : goal.returns-in_err-item
 returns-in_err-item c =
     let p = err_from_is_err_and c.from_residual.result c.from_residual.ensures.1 in
-    rw (p.1, p.2) (continues_fails _ _ _ _ (some_left c.loop-rest.rest.now c.is_empty.result c.is_empty.ensures c.loop-rest-test.true) c.loop-rest.invariant c.in_err-item.ensures.says)
+    rw (p.1, p.2) (continues_fails item _ _ _ _ (some_left c.loop-rest.rest.now c.is_empty.result c.is_empty.ensures c.loop-rest-test.true) c.loop-rest.invariant c.in_err-item.ensures.says)
 
 pub returns : goal.returns
-returns c = continues_end _ _ _ (none_left c.loop-rest.rest.now c.is_empty.result c.is_empty.ensures c.loop-rest-test.false) c.loop-rest.invariant
+returns c = continues_end item _ _ _ (none_left c.loop-rest.rest.now c.is_empty.result c.is_empty.ensures c.loop-rest-test.false) c.loop-rest.invariant

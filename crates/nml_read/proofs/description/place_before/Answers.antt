@@ -1,9 +1,9 @@
 -- The symbol there is the first of those that are left.
 use Rattle.std.proofs.Common.{◌∙◌, ap, sym, drop, length, map}
 use Rattle.std.proofs.lemmas.Bool.{ltb-true}
-use Rattle.nml_read.specs.Seen.{seen}
-use Rattle.nml_read.specs.Trees.{place, first_place}
-use Rattle.nml_read.proofs.Fronts.{place_at}
+use Rattle.readings.specs.Seen.{seen}
+use Rattle.readings.specs.Symbol.{place, first_place}
+use Rattle.readings.proofs.Fronts.{place_at}
 use Rattle.nml_read.proofs.description.place_before.Goals as goal
 
 pub returns-in-Some : goal.returns-in-Some

@@ -2,9 +2,9 @@
 use Rattle.std.proofs.Common.{◌≡◌, ◌∙◌, ◌-◌, ap, sym, subst, length, map, drop}
 use Rattle.std.proofs.lemmas.List.{length-map}
 use Rattle.nml_lex.specs.Lexed.{HasPieces, piece_of}
-use Rattle.nml_read.specs.ReadingItems.{item_list}
-use Rattle.nml_read.specs.Seen.{seen, Fails}
-use Rattle.nml_read.specs.Trees.{first_place}
+use Rattle.nml_grammar.specs.ReadingItems.{item_list}
+use Rattle.readings.specs.Seen.{seen, Fails}
+use Rattle.readings.specs.Symbol.{first_place}
 use Rattle.nml_read.proofs.ReadBytes.{sound_tokens, is_tree, without_float, has_no_tree}
 use Rattle.nml_read.specs.Trees.{HasNoTree}
 use Rattle.nml_read.proofs.description.read.Goals as goal

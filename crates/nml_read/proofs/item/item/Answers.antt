@@ -1,11 +1,11 @@
 -- No other symbol opens an item.
 use Rattle.std.proofs.Common.{◌∷◌, ◌∙◌, ap, sym, refl}
 use Rattle.std.specs.Option.{option_map}
-use Rattle.nml_read.specs.ReadingItems as items
 use Rattle.nml_read.specs.SeenWords.{seen_opening}
-use Rattle.nml_read.specs.declared.sign.Sign.TheVariants as lent
-use Rattle.nml_read.proofs.Fronts.{comes_stuck}
-use Rattle.nml_read.proofs.Saying.{none_among}
+use Rattle.readings.proofs.Fronts.{comes_stuck}
+use Rattle.readings.proofs.Saying.{none_among}
+use Rattle.nml_grammar.specs.ReadingItems as items
+use Rattle.readings.specs.declared.sign.Sign.TheVariants as lent
 use Rattle.nml_read.proofs.item.item.Goals as goal
 
 pub returns-in-Named-clause-says : goal.returns-in-Named-clause-says

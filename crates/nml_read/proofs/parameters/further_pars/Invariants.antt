@@ -1,9 +1,9 @@
 -- the things so far stand before those of the rest
 use Rattle.std.proofs.Common.{◌≤◌, length, map}
 use Rattle.std.specs.Prelude.{codes}
-use Rattle.nml_read.specs.ReadingItems.{par}
-use Rattle.nml_read.specs.Seen.{seen}
-use Rattle.nml_read.proofs.Furthering.{Goes}
+use Rattle.nml_grammar.specs.ReadingItems.{par}
+use Rattle.readings.specs.Seen.{seen}
+use Rattle.readings.proofs.Furthering.{Goes}
 use Rattle.nml_read.proofs.parameters.further_pars.Given as goal
 
 abbrev pub invariant-loop-comma : goal.invariant-loop-comma

@@ -1,9 +1,9 @@
 -- the things so far stand before those of the rest
 use Rattle.std.proofs.Common.{◌≤◌, length, map}
 use Rattle.std.specs.Prelude.{codes}
-use Rattle.nml_read.specs.Readings.{name}
-use Rattle.nml_read.specs.Seen.{seen}
-use Rattle.nml_read.proofs.Furthering.{Goes}
+use Rattle.nml_grammar.specs.Words.{name}
+use Rattle.readings.specs.Seen.{seen}
+use Rattle.readings.proofs.Furthering.{Goes}
 use Rattle.nml_read.proofs.rules.further_names.Given as goal
 
 abbrev pub invariant-loop-bar : goal.invariant-loop-bar

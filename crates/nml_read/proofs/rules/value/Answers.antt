@@ -1,6 +1,6 @@
 -- The expression of a formula is the one that was found.
 use Rattle.nml_tree.proofs.Back.{expr_of-formula}
-use Rattle.nml_read.proofs.Saying.{says_made}
+use Rattle.readings.proofs.Saying.{says_made}
 use Rattle.nml_read.proofs.rules.value.Goals as goal
 
 pub returns-clause-says : goal.returns-clause-says

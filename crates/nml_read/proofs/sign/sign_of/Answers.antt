@@ -1,7 +1,7 @@
 -- The first byte tells what the token is.
 use Rattle.std.proofs.Common.{◌≡◌, ◌∙◌, sym, ap, ne_eqb, Some, slice_get, take, drop, arith}
 use Rattle.std.specs.Option.{unwrap_or}
-use Rattle.nml_tree.specs.Symbol.{Symbol}
+use Rattle.readings.specs.Symbol.{Symbol}
 use Rattle.nml_lex.proofs.Limits.{number_first}
 use Rattle.nml_read.proofs.Signs.{word_is, value_is, number_is, string_is, mark_is}
 use Rattle.nml_read.proofs.sign.sign_of.Goals as goal

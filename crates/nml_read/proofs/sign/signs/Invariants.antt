@@ -1,8 +1,8 @@
 -- the symbols of the tokens so far
 use Rattle.std.proofs.Common.{◌≡◌, map, take}
 use Rattle.nml_lex.specs.Lexed.{piece_of}
-use Rattle.nml_read.specs.Seen.{seen}
-use Rattle.nml_read.specs.Trees.{symbol}
+use Rattle.readings.specs.Seen.{seen}
+use Rattle.nml_grammar.specs.Trees.{symbol}
 use Rattle.nml_read.proofs.sign.signs.Given as goal
 
 abbrev pub invariant-loop-token : goal.invariant-loop-token

@@ -1,0 +1,9 @@
+pub mod Reading
+pub mod ReadingStatements
+pub mod Words
+pub mod ReadingItems
+pub mod Trees
+pub mod Unplaced
+pub mod Sample
+pub mod SampleItems
+pub mod SampleBytes

@@ -1,7 +1,0 @@
--- the digits so far write the value
-use Rattle.std.proofs.Common.{◌≡◌, ◌<◌, ◌^◌, take}
-use Rattle.std.specs.Str.Parse.{digits_value}
-use Rattle.nml_lex.proofs.limit.value_of.Given as goal
-
-abbrev pub invariant-loop-digit : goal.invariant-loop-digit
-invariant-loop-digit l = (l.value ≡ digits_value l.radix (take l.digit-index l.digits)) × (l.value < 2 ^ 64)

@@ -1,0 +1,17 @@
+pub mod Symbols
+pub mod After
+pub mod Local
+pub mod Keeps
+pub mod Settling
+pub mod Ending
+pub mod Going
+pub mod Combining
+pub mod CombiningWords
+pub mod CombiningMarks
+pub mod CombiningLists
+pub mod ToEnd
+pub mod OneEnd
+pub mod Saying
+pub mod Furthering
+pub mod Continuing
+pub mod Fronts
