@@ -7,8 +7,8 @@ use Rattle.nml_tree.specs.declared.tree.Desc.{Desc}
 use Rattle.nml_tree.specs.declared.fault.DescFault.{DescFault}
 use Rattle.nml_tree.specs.declared.fault.DescFault.TheVariants as faults
 use Rattle.nml_lex.proofs.Parts.{never, place}
-use Rattle.nml_read.specs.Trees.{IsFloat}
-use Rattle.nml_read.proofs.OneReading.{one_place, tree_or_none, one_description}
+use Rattle.nml_grammar.specs.Trees.{IsFloat}
+use Rattle.nml_grammar.proofs.OneReading.{one_place, tree_or_none, one_description}
 use Rattle.nml_suite.specs.Described.{HasFault, IsAccepted, Describes}
 use Rattle.nml_suite.specs.declared.purpose.Purpose.{Purpose}
 

@@ -5,8 +5,8 @@ use Rattle.nml_tree.specs.declared.fault.DescFault.TheVariants as faults
 use Rattle.nml_tree.specs.declared.tree.Desc.{Desc}
 use Rattle.nml_tree.specs.Floats.{float_places}
 use Rattle.nml_lex.specs.Lexed.{IsStuckAt}
-use Rattle.nml_read.specs.Trees.{IsTree, HasNoTree, IsFloat}
-use Rattle.nml_read.proofs.SomeReading.{some_tree, some_float}
+use Rattle.nml_grammar.specs.Trees.{IsTree, HasNoTree, IsFloat}
+use Rattle.nml_grammar.proofs.SomeReading.{some_tree, some_float}
 use Rattle.plain_tree.specs.Description.{Description}
 use Rattle.plain_tools.specs.Assembly.{is_fit}
 use Rattle.plain_tools.specs.Machine.{RunOutcome, Runs, beginning}

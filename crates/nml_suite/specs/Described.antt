@@ -8,7 +8,7 @@ use Rattle.nml_tree.specs.declared.tree.Desc.{Desc}
 use Rattle.nml_tree.specs.declared.fault.DescFault.{DescFault}
 use Rattle.nml_tree.specs.declared.fault.DescFault.TheVariants as faults
 use Rattle.nml_lex.specs.Lexed.{IsStuckAt}
-use Rattle.nml_read.specs.Trees.{IsTree, HasNoTree, IsFloat}
+use Rattle.nml_grammar.specs.Trees.{IsTree, HasNoTree, IsFloat}
 use Rattle.nml_suite.specs.declared.purpose.Purpose.{Purpose}
 use Rattle.nml_suite.specs.declared.purpose.Purpose.TheVariants as purposes
 
