@@ -5,7 +5,7 @@ ghost use Rattle.std.specs.Prelude.{◌≡◌, ℕ, List};
 ghost use Rattle.nml_tree.specs.Table.{table};
 ghost use Rattle.nml_tree.specs.Derivation.{Derivation};
 ghost use Rattle.nml_tree.specs.Image.{image};
-ghost use Rattle.nml_tree.specs.Machine.{IsInstruction, Now, Outcome, Runs};
+ghost use Rattle.nml_tree.specs.Machine.{IsInstruction, Now, RunOutcome, Runs};
 ghost use Rattle.nml_tree.specs.Same.{tokens};
 ghost use Rattle.nml_tree.specs.Valid.{IsRoot};
 
@@ -22,7 +22,7 @@ pub fn told(c: &Checked)
 /// A word is one instruction of a checked description at most, so a run has one outcome.
 pub fn one_outcome(c: &Checked)
     ensures word { (w : ℕ) (a b : Derivation) → IsInstruction (table c.now) w a → IsInstruction (table c.now) w b → a ≡ b }
-    ensures run { (words : List ℕ) (n : ℕ) (s : Now) (o p : Outcome) → Runs (table c.now) words n s o → Runs (table c.now) words n s p → o ≡ p }
+    ensures run { (words : List ℕ) (n : ℕ) (s : Now) (o p : RunOutcome) → Runs (table c.now) words n s o → Runs (table c.now) words n s p → o ≡ p }
 {
     let _ = &c.typed;
 }
