@@ -1,5 +1,6 @@
 -- What names mean at a place of the text.
 use Rattle.std.specs.Prelude.{ℕ, ◌+◌, Bool, true, false, ◌||◌, List, [], ◌∷◌, ◌++◌, length, map, Option, Some, None, is_some, if◌then◌else◌, codes}
+use Rattle.std.specs.Map.{lookup}
 use Rattle.nk_base.specs.Text.{text_eq}
 use Rattle.c_tree.specs.declared.names.Name.{Name}
 use Rattle.c_tree.specs.declared.program.GVar.{GVar}
@@ -31,8 +32,7 @@ pub record Names : Type 0 where
 
 -- what a name means by a list
 abbrev pub meaning_in : Meanings → List ℕ → Option Meaning
-meaning_in [] name = None
-meaning_in ((other, m) ∷ ms) name = if text_eq name other then Some m else meaning_in ms name
+meaning_in ms name = lookup (text_eq name) ms
 
 -- a name with its meaning: what the list said of it before is forgotten
 abbrev pub with_meaning : Meanings → List ℕ → Meaning → Meanings

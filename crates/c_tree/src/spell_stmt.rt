@@ -10,7 +10,9 @@ ghost use Rattle.c_tree.specs.Ended.{ended};
 use crate::expression::Expr;
 use crate::spell_expr::{push_expr, push_further};
 use crate::spell_leaf::{push_name, push_number, push_type, push_word};
-use crate::statement::{AssignMark, Block, Decl, First, LVar, Part, Simple, StepMark, Stmt, Target};
+use crate::statement::{
+    AssignMark, Block, Decl, First, LVar, Part, Simple, StepMark, Stmt, Target,
+};
 use nk_base::{Memory, Text};
 
 /// Appends the expression with words before it and behind it.
@@ -172,7 +174,12 @@ fn push_last(text: &mut Text, last: &Option<Simple>) -> Result<(), Memory>
 
 /// Appends the head of a `for`.
 #[tactic(auto, using(crate::proofs::EndedLaws::ended_laws))]
-fn push_head(text: &mut Text, first: &Option<First>, c: &Option<Expr>, last: &Option<Simple>) -> Result<(), Memory>
+fn push_head(
+    text: &mut Text,
+    first: &Option<First>,
+    c: &Option<Expr>,
+    last: &Option<Simple>,
+) -> Result<(), Memory>
     ensures { OnOk result (text.new ≡ text.old ++ (codes "for ( " ++ ended (opening_spelling (option_map opening first.now)) ++ codes "; " ++ ended (optional_spelling (option_map formula c.now)) ++ codes "; " ++ ended (last_spelling (option_map act last.now)) ++ codes ") ")) }
 {
     push_word(text, b"for (")?;
