@@ -173,7 +173,7 @@ abbrev mutual
   statement_faults w s (If at p c q x) = formula_faults w.bits s c ++ statement_faults w s x
   statement_faults w s (IfElse at p c q x f y) = formula_faults w.bits s c ++ statement_faults w s x ++ statement_faults w (behind_statement s x) y
   statement_faults w s (While at p c q x) = formula_faults w.bits s c ++ statement_faults (in_loop w) s x
-  statement_faults w s (Do at x v p c q semicolon) = statement_faults (in_loop w) s x ++ formula_faults w.bits s c
+  statement_faults w s (Do at x v p c q semicolon) = statement_faults (in_loop w) s x ++ formula_faults w.bits (behind_statement s x) c
   statement_faults w s (For at p first a c b step q x) =
       opening_faults w.bits (inner s) first ++ optional_faults w.bits (behind_opening s first) c ++ last_faults w.bits (behind_opening s first) step
       ++ statement_faults (in_loop w) (behind_opening s first) x

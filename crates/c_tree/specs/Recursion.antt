@@ -71,7 +71,7 @@ abbrev mutual
   statement_callees s (If at p c q x) = formula_callees s c ++ statement_callees s x
   statement_callees s (IfElse at p c q x f y) = formula_callees s c ++ statement_callees s x ++ statement_callees (behind_statement s x) y
   statement_callees s (While at p c q x) = formula_callees s c ++ statement_callees s x
-  statement_callees s (Do at x v p c q semicolon) = statement_callees s x ++ formula_callees s c
+  statement_callees s (Do at x v p c q semicolon) = statement_callees s x ++ formula_callees (behind_statement s x) c
   statement_callees s (For at p first a c b step q x) =
       opening_callees (inner s) first ++ optional_callees (behind_opening s first) c ++ last_callees (behind_opening s first) step
       ++ statement_callees (behind_opening s first) x

@@ -167,7 +167,7 @@ abbrev mutual
   command s (statement.If at p c q x) = Turn (If (term s c) (command s x))
   command s (statement.IfElse at p c q x f y) = Turn (IfElse (term s c) (command s x) (command (behind_statement s x) y))
   command s (statement.While at p c q x) = Turn (While (term s c) (command s x))
-  command s (statement.Do at x w p c q semicolon) = Turn (Do (command s x) (term s c))
+  command s (statement.Do at x w p c q semicolon) = Turn (Do (command s x) (term (behind_statement s x) c))
   command s (statement.For at p first a c b step q x) =
       Turn (Seq (opening (inner s) first)
       (For (option_map (term (behind_opening s first)) c) (last (behind_opening s first) step) (command (behind_opening s first) x)))

@@ -1,0 +1,28 @@
+-- What a walk through a program knows of its names, part by part.
+use Rattle.std.specs.Prelude.{ℕ, Bool, List, [], ◌∷◌, map}
+use Rattle.c_tree.specs.declared.statement.LVar.{LVar}
+use Rattle.c_tree.specs.Statement.{Variable, variable, Body, Nothing, Declare, Then}
+use Rattle.c_tree.specs.Names.{Names, declared_variables, behind_variables, behind_statement}
+use Rattle.c_tree.specs.Faults.{Giving, GivesValue, GivesNone, GivesEither, Within}
+use Rattle.c_check.specs.declared.statement.Gives.{Gives}
+use Rattle.c_check.specs.declared.statement.Gives.TheVariants as gives
+use Rattle.c_check.specs.declared.statement.Around.{Around}
+
+-- further variables, without their commas
+abbrev pub listed : List (ℕ × LVar) → List Variable
+listed xs = map (λ (comma, v). v) (map (λ (comma, v). (comma, variable v)) xs)
+
+-- behind what stands in a block, and still in that block
+abbrev pub behind_body : Names → Body → Names
+behind_body s Nothing = s
+behind_body s (Declare d rest) = behind_body (behind_variables s (declared_variables d)) rest
+behind_body s (Then x rest) = behind_body (behind_statement s x) rest
+
+-- where a statement stands
+abbrev pub giving_of : Gives → Giving
+giving_of gives.Value = GivesValue
+giving_of gives.Nothing = GivesNone
+giving_of gives.Either = GivesEither
+
+abbrev pub within : Around → Within
+within w = record { bits = w.width.bits; giving = giving_of w.gives; looped = w.looped }
