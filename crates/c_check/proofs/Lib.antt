@@ -1,3 +1,5 @@
 pub mod WalkLaws
 pub mod Counts
 pub mod Powers
+pub mod Initials
+pub mod Behind

@@ -1,5 +1,8 @@
 -- What is noted of several things, one after the other.
 use Rattle.std.proofs.Common.{◌≡◌, ◌<◌, ◌+◌, ℕ, suc, refl, sym, ◌∙◌, ap, subst, Bool, List, [], ◌∷◌, ◌++◌, append_assoc, append-nil, length, get_or, drop, drop-cons, add-one}
+use Rattle.std.specs.Result.{OnOk}
+use Rattle.std.specs.declared.result.Result.{Result}
+use Rattle.std.specs.declared.result.Result.TheVariants.{Ok, Err}
 use Rattle.c_tree.specs.declared.names.Name.{Name}
 use Rattle.c_tree.specs.Formula.{Formula, Further, CalledWith}
 use Rattle.c_tree.specs.Statement.{Invoke}
@@ -39,3 +42,17 @@ called_found n s name x xs used k w0 w1 w2 a b c = rw (c, b, a, noted_append, no
 
 pub called_calls : (s : Names) (name : Name) (x : Formula) (xs : Further) (c0 c1 c2 : List ℕ) → c1 ≡ c0 ++ callee_of (callee s name.text) → c2 ≡ c1 ++ formula_callees s x → c2 ++ further_callees s xs ≡ c0 ++ (callee_of (callee s name.text) ++ formula_callees s x ++ further_callees s xs)
 called_calls s name x xs c0 c1 c2 a b = rw (b, a) (simp append_assoc refl)
+
+-- what holds in any case holds where there is no error
+pub ok_of : {T E : Type 0} (r : Result T E) (P : Type 0) → P → OnOk r P
+ok_of (Ok x) P p = p
+ok_of (Err e) P p = tt
+
+-- three things, one after the other
+pub three_found : (w0 w1 w2 w3 : Found) (a b c : List Fault) → w1 ≡ noted w0 a → w2 ≡ noted w1 b → w3 ≡ noted w2 c → w3 ≡ noted w0 (a ++ b ++ c)
+three_found w0 w1 w2 w3 a b c h1 h2 h3 = rw (h3, h2, h1, noted_append, noted_append) refl
+
+-- what follows where there is no error
+pub ok_map : {T E : Type 0} (r : Result T E) (P Q : Type 0) → (P → Q) → OnOk r P → OnOk r Q
+ok_map (Ok x) P Q f p = f p
+ok_map (Err e) P Q f p = tt

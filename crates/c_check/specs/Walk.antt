@@ -1,9 +1,12 @@
 -- What a walk through a program knows of its names, part by part.
-use Rattle.std.specs.Prelude.{ℕ, Bool, List, [], ◌∷◌, map}
+use Rattle.std.specs.Prelude.{ℕ, List, map, flat_map}
+use Rattle.c_tree.specs.declared.program.SNum.{SNum}
+use Rattle.c_tree.specs.declared.program.GVar.{GVar}
+use Rattle.c_tree.specs.declared.program.Param.{Param}
 use Rattle.c_tree.specs.declared.statement.LVar.{LVar}
 use Rattle.c_tree.specs.Statement.{Variable, variable, Body, Nothing, Declare, Then}
 use Rattle.c_tree.specs.Names.{Names, declared_variables, behind_variables, behind_statement}
-use Rattle.c_tree.specs.Faults.{Giving, GivesValue, GivesNone, GivesEither, Within}
+use Rattle.c_tree.specs.Faults.{Fault, initial_faults, Giving, GivesValue, GivesNone, GivesEither, Within}
 use Rattle.c_check.specs.declared.statement.Gives.{Gives}
 use Rattle.c_check.specs.declared.statement.Gives.TheVariants as gives
 use Rattle.c_check.specs.declared.statement.Around.{Around}
@@ -11,6 +14,16 @@ use Rattle.c_check.specs.declared.statement.Around.{Around}
 -- further variables, without their commas
 abbrev pub listed : List (ℕ × LVar) → List Variable
 listed xs = map (λ (comma, v). v) (map (λ (comma, v). (comma, variable v)) xs)
+
+-- what further initial values may not be
+abbrev pub starts_of : ℕ → List (ℕ × SNum) → List Fault
+starts_of n zs = flat_map (initial_faults n) (map (λ (comma, v). v) zs)
+
+abbrev pub further_gvars : List (ℕ × GVar) → List GVar
+further_gvars xs = map (λ (comma, x). x) xs
+
+abbrev pub further_params : List (ℕ × Param) → List Param
+further_params xs = map (λ (comma, x). x) xs
 
 -- behind what stands in a block, and still in that block
 abbrev pub behind_body : Names → Body → Names

@@ -1,6 +1,7 @@
 //! Which programs are accepted, and why others are refused.
 #![tactic(auto)]
 
+mod declaration;
 mod expression;
 mod note;
 mod numbers;
@@ -8,3 +9,4 @@ mod statement;
 
 pub use note::{Found, Notes};
 pub use numbers::{Width, width_of};
+pub use statement::{Around, Gives};
