@@ -63,4 +63,16 @@ behind_for s at p first a c b step q x =
     kept_by (inner s) (behind_opening s first) (behind_statement (behind_opening s first) x) _ _ _ k (record { outer = refl; functions = refl; next = refl }) (sym (sizes-append (opening_shapes first) (statement_shapes x))) in
     rw (l.outer, l.functions, l.next) refl
 
+kept_parameters : (s : Names) (ps : List Param) → Kept s (behind_parameters s ps) (sizes (map (λ p. None) ps))
+kept_parameters s [] = record { outer = refl; functions = refl; next = omega arith }
+kept_parameters s (p ∷ ps) =
+    kept_by s (behind_parameters s (p ∷ [])) (behind_parameters (behind_parameters s (p ∷ [])) ps) 1 (sizes (map (λ p. None) ps)) (1 + sizes (map (λ p. None) ps)) (record { outer = refl; functions = refl; next = refl }) (kept_parameters (behind_parameters s (p ∷ [])) ps) refl
+
+-- behind a function's body, with the cells that were free before it
+pub behind_function : (s : Names) (ps : List Param) (b : Body) → record (outside (behind_body (behind_parameters (record (inner s) { next = 0 }) ps) b)) { next = s.next } ≡ s
+behind_function s ps b =
+    let k = kept_parameters (record (inner s) { next = 0 }) ps in
+    let l = kept_body (behind_parameters (record (inner s) { next = 0 }) ps) b in
+    rw (l.outer, k.outer, l.functions, k.functions) refl
+
 pub ruleset behind_laws = (behind_none, behind_both, behind_braces, behind_for)

@@ -4,8 +4,12 @@ use Rattle.c_tree.specs.declared.program.SNum.{SNum}
 use Rattle.c_tree.specs.declared.program.GVar.{GVar}
 use Rattle.c_tree.specs.declared.program.Param.{Param}
 use Rattle.c_tree.specs.declared.statement.LVar.{LVar}
-use Rattle.c_tree.specs.Statement.{Variable, variable, Body, Nothing, Declare, Then}
-use Rattle.c_tree.specs.Names.{Names, declared_variables, behind_variables, behind_statement}
+use Rattle.c_tree.specs.declared.program.Function.{Function}
+use Rattle.c_tree.specs.Items.{Definition}
+use Rattle.c_tree.specs.Resolve.{body_of}
+use Rattle.c_tree.specs.Recursion.{body_callees}
+use Rattle.c_tree.specs.Statement.{Variable, variable, block, Body, Nothing, Declare, Then}
+use Rattle.c_tree.specs.Names.{Names, before_body, declared_variables, behind_variables, behind_statement}
 use Rattle.c_tree.specs.Faults.{Fault, initial_faults, Giving, GivesValue, GivesNone, GivesEither, Within}
 use Rattle.c_check.specs.declared.statement.Gives.{Gives}
 use Rattle.c_check.specs.declared.statement.Gives.TheVariants as gives
@@ -39,3 +43,11 @@ giving_of gives.Either = GivesEither
 
 abbrev pub within : Around → Within
 within w = record { bits = w.width.bits; giving = giving_of w.gives; looped = w.looped }
+
+-- a function as definitions see it
+abbrev pub defined : Function → Definition
+defined f = record { result = f.result; name = f.name; opening = f.opening; params = f.params; closing = f.closing; braces = block f.body }
+
+-- the numbers of the functions that it calls
+abbrev pub row_of : Names → Definition → List ℕ
+row_of s f = body_callees (before_body s f) (body_of f.braces)

@@ -3,10 +3,12 @@
 
 mod declaration;
 mod expression;
+mod global;
 mod note;
 mod numbers;
 mod statement;
 
+pub use global::note_all;
 pub use note::{Found, Notes};
 pub use numbers::{Width, width_of};
 pub use statement::{Around, Gives};
