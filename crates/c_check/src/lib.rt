@@ -1,14 +1,16 @@
 //! Which programs are accepted, and why others are refused.
 #![tactic(auto)]
 
+mod accept;
+mod cycle;
 mod declaration;
 mod expression;
 mod global;
+mod guess;
 mod note;
 mod numbers;
+mod order;
+mod reach;
 mod statement;
 
-pub use global::note_all;
-pub use note::{Found, Notes};
-pub use numbers::{Width, width_of};
-pub use statement::{Around, Gives};
+pub use accept::check;

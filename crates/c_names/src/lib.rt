@@ -4,5 +4,5 @@
 mod begin;
 mod scopes;
 
-pub use begin::{first_scopes, is_main};
+pub use begin::{count_of, first_scopes, is_main};
 pub use scopes::Scopes;
