@@ -7,6 +7,7 @@ mod declaration;
 mod expression;
 mod global;
 mod guess;
+mod laws;
 mod note;
 mod numbers;
 mod order;
@@ -14,3 +15,4 @@ mod reach;
 mod statement;
 
 pub use accept::check;
+pub use laws::{accepted_has_none, has_one_fault};

@@ -1,6 +1,9 @@
 -- What waits in a machine that runs a program, and what the rest of the run gives: each frame is what comes behind a part.
 use Rattle.std.specs.Prelude.{ℕ, suc, ◌+◌, ℤ, pos, not, List, [], ◌∷◌, ◌++◌, Option}
-use Rattle.ir_core.specs.Operator.{Prefix, Shift, Arith, prefixed, shifted, arithmetic, holds}
+use Rattle.ir_core.specs.declared.operator.Prefix.{Prefix}
+use Rattle.ir_core.specs.declared.operator.Shift.{Shift}
+use Rattle.ir_core.specs.declared.operator.Arith.{Arith}
+use Rattle.ir_core.specs.Operator.{prefixed, shifted, arithmetic, holds}
 use Rattle.ir_core.specs.declared.relation.Rel.{Rel}
 use Rattle.nk_outside.specs.Outcome.{Outcome}
 use Rattle.nk_outside.specs.declared.stop.Stop.TheVariants as stops

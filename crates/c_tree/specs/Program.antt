@@ -1,6 +1,8 @@
 -- A program whose names are resolved: what it means, how it is compiled and what is counted of it all go by this.
 use Rattle.std.specs.Prelude.{ℕ, ◌+◌, ℤ, Bool, List, [], ◌∷◌, Option, Some, None}
-use Rattle.ir_core.specs.Operator.{Prefix, Shift, Arith}
+use Rattle.ir_core.specs.declared.operator.Prefix.{Prefix}
+use Rattle.ir_core.specs.declared.operator.Shift.{Shift}
+use Rattle.ir_core.specs.declared.operator.Arith.{Arith}
 use Rattle.ir_core.specs.declared.relation.Rel.{Rel}
 use Rattle.c_tree.specs.declared.names.Name.{Name}
 use Rattle.c_tree.specs.declared.meaning.Place.{Place}

@@ -1,8 +1,10 @@
 -- The resolved program of a tree. A name that is used wrongly gives a 0 or nothing to do: an accepted program has none.
 use Rattle.std.specs.Prelude.{ℕ, ℤ, pos, neg_ℤ, Bool, true, false, not, List, [], ◌∷◌, ◌++◌, length, map, filter, replicate, Option, Some, None, option_map, codes}
 use Rattle.nk_base.specs.Text.{text_eq}
-use Rattle.ir_core.specs.Operator.{Prefix, Shift, Shl, Shr, Arith}
-use Rattle.ir_core.specs.Operator as operator
+use Rattle.ir_core.specs.declared.operator.Prefix.TheVariants as prefix
+use Rattle.ir_core.specs.declared.operator.Shift.TheVariants as shift
+use Rattle.ir_core.specs.declared.operator.Arith.{Arith}
+use Rattle.ir_core.specs.declared.operator.Arith.TheVariants as arith
 use Rattle.ir_core.specs.declared.relation.Rel.TheVariants as rel
 use Rattle.c_tree.specs.declared.operator.Bin.{Bin}
 use Rattle.c_tree.specs.declared.operator.Bin.TheVariants as bin
@@ -48,28 +50,28 @@ written (Numeral z) = z.value
 written _ = 0
 
 abbrev pub unary : formula.Prefix → Term → Term
-unary formula.Neg x = Unary operator.Neg x
-unary formula.Inv x = Unary operator.Not x
+unary formula.Neg x = Unary prefix.Neg x
+unary formula.Inv x = Unary prefix.Not x
 unary formula.Not x = Not x
 
 -- the amount of a shift is a written number
 abbrev pub binary : Bin → Term → Term → ℕ → Term
 binary bin.OrElse x y k = OrElse x y
 binary bin.AndAlso x y k = AndAlso x y
-binary bin.Or x y k = Arithmetic operator.Or x y
-binary bin.Xor x y k = Arithmetic operator.Xor x y
-binary bin.And x y k = Arithmetic operator.And x y
+binary bin.Or x y k = Arithmetic arith.Or x y
+binary bin.Xor x y k = Arithmetic arith.Xor x y
+binary bin.And x y k = Arithmetic arith.And x y
 binary bin.Eq x y k = Compare rel.Eq x y
 binary bin.Ne x y k = Compare rel.Ne x y
 binary bin.Lt x y k = Compare rel.Lt x y
 binary bin.Le x y k = Compare rel.Le x y
 binary bin.Gt x y k = Compare rel.Gt x y
 binary bin.Ge x y k = Compare rel.Ge x y
-binary bin.Shl x y k = Shifted Shl x k
-binary bin.Shr x y k = Shifted Shr x k
-binary bin.Add x y k = Arithmetic operator.Add x y
-binary bin.Sub x y k = Arithmetic operator.Sub x y
-binary bin.Mul x y k = Arithmetic operator.Mul x y
+binary bin.Shl x y k = Shifted shift.Shl x k
+binary bin.Shr x y k = Shifted shift.Shr x k
+binary bin.Add x y k = Arithmetic arith.Add x y
+binary bin.Sub x y k = Arithmetic arith.Sub x y
+binary bin.Mul x y k = Arithmetic arith.Mul x y
 
 abbrev mutual
   pub term : Names → Formula → Term
@@ -90,13 +92,13 @@ abbrev mutual
 
 abbrev pub stored : AssignMark → Term → Term → Term
 stored (store.Set at) x e = e
-stored (store.Add at) x e = Arithmetic operator.Add x e
-stored (store.Sub at) x e = Arithmetic operator.Sub x e
+stored (store.Add at) x e = Arithmetic arith.Add x e
+stored (store.Sub at) x e = Arithmetic arith.Sub x e
 
 abbrev pub element_stored : AssignMark → Place → ℕ → Term → Term → Command
 element_stored (store.Set at) p n i e = program.Store p n i e
-element_stored (store.Add at) p n i e = program.Change p n i operator.Add e
-element_stored (store.Sub at) p n i e = program.Change p n i operator.Sub e
+element_stored (store.Add at) p n i e = program.Change p n i arith.Add e
+element_stored (store.Sub at) p n i e = program.Change p n i arith.Sub e
 
 -- `x = e` and the like
 abbrev pub assigned : Option Meaning → Option Term → AssignMark → Term → Command
