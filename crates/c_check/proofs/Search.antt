@@ -4,7 +4,7 @@ use Rattle.std.specs.Prelude.{◌⊎◌}
 use Rattle.std.proofs.lemmas.List.{get_or-set_same, get_or-set_other, length-set}
 use Rattle.std.proofs.lemmas.Bool.{cases_eq, cases_lt}
 use Rattle.c_tree.specs.Recursion.{Graph, row, Among, Edge, Reaches, at_once, over}
-use Rattle.c_check.specs.Search.{Grounded, grounded, Marked, IsSearch, Visited, StandsBefore, IsOrder}
+use Rattle.c_check.specs.Search.{Marked, IsSearch, Visited, rank, IsRanked, IsStrict, AreStrictBelow}
 
 pub row_is : (g : Graph) (x : ℕ) (d : List ℕ) → x < length g → get_or g x d ≡ row g x
 row_is [] x d low = absurd (omega arith)
@@ -42,8 +42,8 @@ among_either (x ∷ xs) n b (inl h) = inl (inl h)
 among_either (x ∷ xs) n b (inr h) = elim (among_either xs n b h) [ inl k ↦ inl (inr k) | inr k ↦ inr k ]
 
 -- what holds at each place holds of each member
-pub each_of : (marks : List Bool) (xs : List ℕ) (i : ℕ) → ((k : ℕ) → k < i → Marked marks (get_or xs k 0)) → length xs ≤ i → (b : ℕ) → Among xs b → Marked marks b
-each_of marks xs i all far b h = let r = among_get xs b h in let l = r.1 in subst (Marked marks) r.2 (all r.0 (omega (arith, l)))
+pub each_of : (P : ℕ → Type 0) (xs : List ℕ) (i : ℕ) → ((k : ℕ) → k < i → P (get_or xs k 0)) → length xs ≤ i → (b : ℕ) → Among xs b → P b
+each_of P xs i all far b h = let r = among_get xs b h in let l = r.1 in subst P r.2 (all r.0 (omega (arith, l)))
 
 -- marks
 marked_old : (marks : List Bool) (n b : ℕ) → n < length marks → Marked (set marks n true) b → (b ≡ n) ⊎ Marked marks b
@@ -55,29 +55,13 @@ marked_new marks n low = get_or-set_same marks n true false low
 pub marked_kept : (marks : List Bool) (n b : ℕ) → n < length marks → Marked marks b → Marked (set marks n true) b
 marked_kept marks n b low h = elim (cases_eq b n) [ inl e ↦ rw e (marked_new marks n low) | inr ne ↦ get_or-set_other marks n b true false ne ∙ h ]
 
-pub grounded_step : (g : Graph) (marks : List Bool) (n : ℕ) (d names : List ℕ) → length marks ≡ length g → n < length g → ((a : ℕ) → Marked marks a → Grounded g a) → names ≡ get_or g n d → ((b : ℕ) → Among names b → Marked marks b) → (a : ℕ) → Marked (set marks n true) a → Grounded g a
-grounded_step g marks n d names long low inv is all a h = elim (marked_old marks n a (omega arith) h) [
-  | inl e ↦ subst (Grounded g) (sym e) (grounded (λ b k. inv b (all b (rw (is, row_is g n d low) k))))
-  | inr m ↦ inv a m
-]
-
--- a rule without a cycle below it doesn't reach itself
+-- one call further
 further : (g : Graph) (a b c : ℕ) → Reaches g a b → Edge g b c → Reaches g a c
 further g a b c (at_once e) k = over e (at_once k)
 further g a b c (over e r) k = over e (further g _ b c r k)
 
 pub reaches_further : (g : Graph) (a b c : ℕ) → Reaches g a b → Edge g b c → Reaches g a c
 reaches_further g a b c r k = further g a b c r k
-
-turn : (g : Graph) (a c : ℕ) → Reaches g a c → c ≡ a → (b : ℕ) × Edge g a b × Reaches g b b
-turn g a c (at_once e) is = (a, subst (Edge g a) is e, at_once (subst (Edge g a) is e))
-turn g a c (over {b = b} e r) is = (b, e, further g b a b (subst (Reaches g b) is r) e)
-
-turned : (g : Graph) (a : ℕ) → Reaches g a a → (b : ℕ) × Edge g a b × Reaches g b b
-turned g a r = turn g a a r refl
-
-pub no_cycle : (g : Graph) (a : ℕ) → Grounded g a → Reaches g a a → ⊥
-no_cycle g a (grounded f) r = let t = turned g a r in no_cycle g t.0 (f t.0 t.1) t.2
 
 pub starts_below : (g : Graph) (a c : ℕ) → Reaches g a c → a < length g
 starts_below g a c (at_once e) = from_below g a c e
@@ -146,38 +130,49 @@ visiting_new g a before after old work names i v low r =
 pub visiting_old : (g : Graph) (a : ℕ) (before after : List Bool) (old work names : List ℕ) (i : ℕ) → Visiting g a before after old work names i → (get_or names i 0 < length g → Marked after (get_or names i 0)) → Visiting g a before after old work names (i + 1)
 visiting_old g a before after old work names i v m = record { search = v.search; kept = v.kept; done = one_more (length g) after names i v.done m; front = v.front }
 
--- what is known of an order that was looked at up to i
-pub record Ordering (g : Graph) (order : List ℕ) (marks : List Bool) (i : ℕ) : Type 0 where
-  pub long : length marks ≡ length g
-  pub grounded : (a : ℕ) → Marked marks a → Grounded g a
-  pub before : (a : ℕ) → Marked marks a → StandsBefore order i a
-  pub behind : (p b : ℕ) → p < i → Edge g (get_or order p 0) b → StandsBefore order p b
+-- ---- ranks
 
-pub ordering_step : (g : Graph) (order : List ℕ) (marks : List Bool) (i : ℕ) (d names : List ℕ) → Ordering g order marks i → i < length order → get_or order i 0 < length g → names ≡ get_or g (get_or order i 0) d → ((b : ℕ) → Among names b → Marked marks b) → Ordering g order (set marks (get_or order i 0) true) (i + 1)
-ordering_step g order marks i d names o here low is all =
-    let l = o.long in
-    let within : get_or order i 0 < length marks = omega arith in
-    record {
-      long = length-set marks (get_or order i 0) true ∙ o.long;
-      grounded = grounded_step g marks (get_or order i 0) d names o.long low o.grounded is all;
-      before = λ a m. elim (marked_old marks (get_or order i 0) a within m) [
-        | inl e ↦ (i, omega arith, sym e)
-        | inr k ↦ (let r = o.before a k in let h = r.1 in (r.0, omega arith, r.2))
-      ];
-      behind = λ p b less e. elim (cases_lt p i) [
-        | inl under ↦ o.behind p b under e
-        | inr more ↦ (let same : p ≡ i = omega arith in
-            let f : Edge g (get_or order i 0) b = subst (λ x. Edge g (get_or order x 0) b) same e in
-            rw same (o.before b (all b (rw (is, row_is g (get_or order i 0) d low) f))))
-      ];
-    }
+pub edge_row : (g : Graph) (x : ℕ) (d names : List ℕ) (b : ℕ) → x < length g → d ≡ get_or g x d → names ≡ d → Edge g x b → Among names b
+edge_row g x d names b low is same e = subst (λ xs. Among xs b) (sym (row_of g x d names low is same)) e
 
-pub is_order : (g : Graph) (order : List ℕ) (marks : List Bool) (i : ℕ) → Ordering g order marks i → length order ≤ i → i ≤ length order → ((a : ℕ) → a < length marks → Marked marks a) → IsOrder g order
-is_order g order marks i o far low all =
-    let l = o.long in
-    let same : i ≡ length order = omega arith in
-    record {
-      behind = λ p b less e. o.behind p b (omega arith) e;
-      every = λ a less. rw (← same) (o.before a (all a (omega arith)));
-      grounded = λ a less. o.grounded a (all a (omega arith));
-    }
+-- what is reached has no higher rank
+falls_through : (g : Graph) (ranks : List ℕ) → IsRanked g ranks → (x z : ℕ) → Reaches g x z → z < length g → rank ranks z ≤ rank ranks x
+falls_through g ranks fall x z (at_once e) low = fall.each x z e low
+falls_through g ranks fall x z (over {b = b} e r) low =
+    let h = falls_through g ranks fall b z r low in
+    let k = fall.each x b e (starts_below g b z r) in
+    omega (arith, h, k)
+
+-- a function that calls lower ones alone doesn't reach itself
+pub no_cycle : (g : Graph) (ranks : List ℕ) → IsRanked g ranks → (b : ℕ) → IsStrict g ranks b → Reaches g b b → ⊥
+no_cycle g ranks fall b strict (at_once e) = let h = strict b e (from_below g b b e) in omega (arith, h)
+no_cycle g ranks fall b strict (over {b = c} e r) =
+    let h = strict c e (starts_below g c b r) in
+    let k = falls_through g ranks fall c b r (from_below g b c e) in
+    omega (arith, h, k)
+
+-- one function more whose row was looked at
+pub strict_more : (g : Graph) (ranks : List ℕ) (i : ℕ) (d names : List ℕ) (limit : ℕ) → AreStrictBelow g ranks i → i < length g → length ranks ≡ length g → d ≡ get_or g i d → names ≡ d → limit ≡ rank ranks i → ((y : ℕ) → Among names y → y < length ranks → rank ranks y < limit) → AreStrictBelow g ranks (i + 1)
+strict_more g ranks i d names limit all here long is same top row x low y e small = elim (cases_lt x i) [
+  | inl less ↦ all x less y e small
+  | inr more ↦ (let one : x ≡ i = omega arith in
+      let within : y < length ranks = omega (arith, small, long) in
+      let h = row y (edge_row g i d names y here is same (subst (λ z. Edge g z y) one e)) within in
+      subst (λ z. rank ranks y < rank ranks z) (sym one) (subst (λ z. rank ranks y < z) top h))
+]
+
+pub fall_more : (g : Graph) (ranks : List ℕ) (i : ℕ) (d names : List ℕ) (limit : ℕ) → ((x y : ℕ) → x < i → Edge g x y → y < length g → rank ranks y ≤ rank ranks x) → i < length g → length ranks ≡ length g → d ≡ get_or g i d → names ≡ d → limit ≤ rank ranks i + 1 → ((y : ℕ) → Among names y → y < length ranks → rank ranks y < limit) → (x y : ℕ) → x < i + 1 → Edge g x y → y < length g → rank ranks y ≤ rank ranks x
+fall_more g ranks i d names limit all here long is same top row x y low e small = elim (cases_lt x i) [
+  | inl less ↦ all x y less e small
+  | inr more ↦ (let one : x ≡ i = omega arith in
+      let within : y < length ranks = omega (arith, small, long) in
+      let h = row y (edge_row g i d names y here is same (subst (λ z. Edge g z y) one e)) within in
+      let k : rank ranks y ≤ rank ranks i = omega (arith, h, top) in
+      subst (λ z. rank ranks y ≤ rank ranks z) (sym one) k)
+]
+
+pub fall_all : (g : Graph) (ranks : List ℕ) (i : ℕ) → ((x y : ℕ) → x < i → Edge g x y → y < length g → rank ranks y ≤ rank ranks x) → length g ≤ i → IsRanked g ranks
+fall_all g ranks i all far = record { each = λ x y e small. let h = from_below g x y e in all x y (omega (arith, h, far)) e small }
+
+pub first_least : (g : Graph) (ranks : List ℕ) (a : ℕ) → IsRanked g ranks → AreStrictBelow g ranks a → (b : ℕ) → Reaches g b b → a ≤ b
+first_least g ranks a fall strict b r = elim (cases_lt b a) [ inl less ↦ absurd (no_cycle g ranks fall b (strict b less) r) | inr more ↦ more ]

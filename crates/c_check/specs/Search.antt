@@ -7,10 +7,6 @@ abbrev pub LeastOf : (ℕ → Type 0) → Option ℕ → Type 0
 LeastOf P None = (b : ℕ) → P b → ⊥
 LeastOf P (Some at) = P at × ((b : ℕ) → P b → at ≤ b)
 
--- all that it names, and all that these name, is without a cycle
-pub data Grounded (g : Graph) : ℕ → Type 0 where
-  grounded : {a : ℕ} → ((b : ℕ) → Edge g a b → Grounded g b) → Grounded g a
-
 abbrev pub Marked : List Bool → ℕ → Type 0
 Marked marks b = slice_index_or marks b false ≡ true
 
@@ -27,12 +23,18 @@ pub record Visited (g : Graph) (x : ℕ) (before after : List Bool) : Type 0 whe
   pub kept : (b : ℕ) → Marked before b → Marked after b
   pub all : (b : ℕ) → Edge g x b → b < length g → Marked after b
 
--- it stands before this place of the order
-abbrev pub StandsBefore : List ℕ → ℕ → ℕ → Type 0
-StandsBefore order p b = (q : ℕ) × (q < p) × (slice_index_or order q 0 ≡ b)
+-- the rank of a function
+abbrev pub rank : List ℕ → ℕ → ℕ
+rank ranks x = slice_index_or ranks x 0
 
--- each rule stands in the order, behind those that it names; so none reaches itself
-pub record IsOrder (g : Graph) (order : List ℕ) : Type 0 where
-  pub behind : (p b : ℕ) → p < length order → Edge g (slice_index_or order p 0) b → StandsBefore order p b
-  pub every : (a : ℕ) → a < length g → StandsBefore order (length order) a
-  pub grounded : (a : ℕ) → a < length g → Grounded g a
+-- no function calls one of a higher rank
+pub record IsRanked (g : Graph) (ranks : List ℕ) : Type 0 where
+  pub each : (x y : ℕ) → Edge g x y → y < length g → rank ranks y ≤ rank ranks x
+
+-- it calls functions of lower ranks alone
+abbrev pub IsStrict : Graph → List ℕ → ℕ → Type 0
+IsStrict g ranks x = (y : ℕ) → Edge g x y → y < length g → rank ranks y < rank ranks x
+
+-- and so do all before this one
+abbrev pub AreStrictBelow : Graph → List ℕ → ℕ → Type 0
+AreStrictBelow g ranks a = (x : ℕ) → x < a → IsStrict g ranks x

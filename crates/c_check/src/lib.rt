@@ -10,7 +10,7 @@ mod guess;
 mod laws;
 mod note;
 mod numbers;
-mod order;
+mod rank;
 mod reach;
 mod statement;
 

@@ -1,4 +1,4 @@
-//! Whether a rule reaches itself.
+//! Whether a function reaches itself.
 
 ghost use Rattle.std.specs.Prelude.{◌↔◌, ℕ, IfOk, OnOk, IsTrue, ◌<◌, ◌≡◌, ◌++◌, List, length, slice_index_or, false};
 ghost use Rattle.c_tree.specs.Recursion.{Edge, Reaches};
@@ -7,6 +7,7 @@ ghost use Rattle.c_check.specs.Search.{IsSearch, Visited};
 use sqlite_items::Items;
 use std::alloc::{AllocError, Global};
 
+/// Whether the function reaches itself, by a search from it.
 pub fn reaches_itself(
     alloc: Global,
     graph: &[Items<usize>],
@@ -28,7 +29,7 @@ pub fn reaches_itself(
     Ok(marked(&marks, rule))
 }
 
-/// Marks all that the rule `x` names, and puts what is new at the end of the work.
+/// Marks all that the function `x` calls, and puts what is new at the end of the work.
 fn visit(
     graph: &[Items<usize>],
     from: usize,
@@ -54,6 +55,7 @@ fn visit(
     Ok(())
 }
 
+/// Whether the number is marked.
 fn marked(marks: &Vec<bool>, at: usize) -> bool
     requires { at < length marks.now.items }
     ensures { result ≡ slice_index_or marks.now.items at false }
@@ -61,7 +63,8 @@ fn marked(marks: &Vec<bool>, at: usize) -> bool
     marks.as_slice()[at]
 }
 
-fn item(work: &Vec<usize>, at: usize) -> usize
+/// A number of the list.
+pub fn item(work: &Vec<usize>, at: usize) -> usize
     requires { at < length work.now.items }
     ensures { result ≡ slice_index_or work.now.items at 0 }
 {
