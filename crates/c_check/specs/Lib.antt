@@ -1,0 +1,4 @@
+pub mod Note
+pub mod Walk
+pub mod Search
+pub mod First
