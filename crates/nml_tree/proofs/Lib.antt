@@ -16,6 +16,3 @@ pub mod Height
 pub mod ByNames
 pub mod RuleWorth
 pub mod ImageWidths
-pub mod Lookups
-pub mod StateLaws
-pub mod StateSeen

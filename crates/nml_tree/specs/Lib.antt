@@ -47,8 +47,3 @@ pub mod Walk
 pub mod Built
 pub mod SampleMachines
 pub mod SampleFaults
-pub mod Cells
-pub mod SeenWrites
-pub mod IsState
-pub mod NamesNone
-pub mod RightTypes

@@ -7,7 +7,6 @@ mod expression;
 mod fault;
 mod keyword;
 mod laws;
-mod lookup;
 mod names;
 mod operator;
 mod spell_attrs;
@@ -15,7 +14,6 @@ mod spell_expr;
 mod spell_item;
 mod spell_leaf;
 mod spell_stmt;
-mod state;
 mod statement;
 mod tree;
 mod typed;
@@ -26,11 +24,9 @@ pub use expression::Expr;
 pub use fault::{DescFault, Root};
 pub use keyword::is_keyword;
 pub use laws::one_derivation;
-pub use lookup::{find, natural_size, type_value};
 pub use names::{Name, Number, Quoted};
 pub use operator::{Bin, Un};
 pub use spell_item::spell;
-pub use state::{Exec, State};
 pub use statement::{Place, Stmt};
 pub use tree::{
     Desc, Item, ModeRule, OpRule, OrRule, Par, Pars, Port, PortWord, RuleWord, Size, Storage,

@@ -41,8 +41,8 @@ use Rattle.nml_widths.specs.Fitting.{EachValue}
 use Rattle.nml_widths.proofs.ActFits.{value_sound}
 use Rattle.nml_widths.proofs.Fits.{right_left}
 use Rattle.nml_widths.specs.Fitting.{IsRightDeclared}
-use Rattle.nml_tree.specs.RightTypes.{ItemRight, EachRight}
-use Rattle.nml_tree.proofs.Lookups.{each_right}
+use Rattle.nml_state.specs.RightTypes.{ItemRight, EachRight}
+use Rattle.nml_state.proofs.Lookups.{each_right}
 
 none_from : (xs : List ℕ) → ((at : ℕ) → Contains xs at → ⊥) → xs ≡ []
 none_from [] h = refl

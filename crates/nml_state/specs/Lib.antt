@@ -1,0 +1,5 @@
+pub mod NamesNone
+pub mod RightTypes
+pub mod Cells
+pub mod IsState
+pub mod SeenWrites
