@@ -21,7 +21,7 @@ use Rattle.nml_tree.specs.Written.{Argument, FieldAt, reference, term, named, ar
 use Rattle.nml_tree.specs.Act.{Term}
 use Rattle.nml_tree.specs.Value.{View, value, number_at}
 use Rattle.nml_widths.proofs.Holds.{holds_more}
-use Rattle.nml_tree.proofs.OneWord.{or_of}
+use Rattle.nml_tree.proofs.OneDerivation.{or_of}
 use Rattle.nml_tree.proofs.Height.{picked}
 use Rattle.nml_widths.proofs.Fits.{Fits, Told, told_both, cap_left, cap_right, AreRight, right_left, Named, no_left, unless_none, both_right, number_fits, type_fits, value_fits}
 pub use Rattle.nml_widths.specs.Fitting.{IsRightDeclared, IsOfType, AreOfTypes, StandAt}
