@@ -1,17 +1,17 @@
 -- How long a program's longest token is, by the kind of its first byte.
 use Rattle.std.proofs.Common.{◌≡◌, ◌∙◌, ap, refl, sym, ℕ, zero, suc, ◌+◌, ◌<◌, ◌≤◌, cond, eqb, not, nat_le, nat_lt, ◌&&◌, ◌||◌, Bool, true, false, List, [], ◌∷◌, ◌++◌, length, take, drop, length-take, length-take-le, take-append-drop, slice_index, slice_get, IsTrue, arith, one-add, eqb-true, take_while, Some, ne_eqb}
-use Rattle.std.proofs.lemmas.Bool.{and_left, and_right, and_from, and_parts, or_from, or_left, cond-true, cond-false, cond_both, both_ways, lt-ltb, leb-true, le-leb, false_from_ne_true}
+use Rattle.std.proofs.lemmas.Bool.{and_left, and_right, and_from, and_parts, or_from, or_left, cond-true, cond_both, both_ways, lt-ltb, leb-true, le-leb}
 use Rattle.std.proofs.lemmas.Bool.Decides.{nat_tests}
 use Rattle.std.proofs.lemmas.List.Folds.{length-prefix_len}
 use Rattle.std.specs.Char.{is_ascii_digit, is_ascii_hexdigit}
 use Rattle.std.specs.List.{list_all, prefix_len}
 use Rattle.nk_base.specs.Byte.{is_name_start, is_name_byte}
-use Rattle.nml_lex.specs.Form.{is_name, is_hexadecimal, are_digits}
+use Rattle.nml_lex.specs.Form.{is_hexadecimal, are_digits}
 use Rattle.nml_lex.proofs.Lengths.{run_passes, run_ends, other_prefix}
 use Rattle.c_lex.specs.Form.{is_decimal, is_number, is_mark, is_token}
 use Rattle.c_lex.specs.Lexing.{begins_comment}
 use Rattle.c_lex.specs.Lexed.{c, longest}
-use Rattle.c_lex.proofs.Longest.{IsLongest, longest_is, longest_comment}
+use Rattle.c_lex.proofs.Longest.{IsLongest, longest_is}
 use Rattle.c_lex.proofs.Words.{name_token, number_token, mark_token, long_mark}
 
 -- ---- runs

@@ -1,9 +1,9 @@
 -- The longest token in front, in any language.
-use Rattle.std.proofs.Common.{◌≡◌, ◌∙◌, ap, refl, sym, ℕ, zero, suc, ◌+◌, ◌<◌, ◌≤◌, inl, inr, eqb, ◌&&◌, ◌||◌, Bool, true, false, List, [], ◌∷◌, ◌++◌, length, take, drop, take-append-drop, length-take-le, IsTrue, arith}
+use Rattle.std.proofs.Common.{◌≡◌, ◌∙◌, ap, refl, sym, ℕ, zero, suc, ◌<◌, ◌≤◌, inl, inr, eqb, ◌&&◌, ◌||◌, Bool, true, false, List, [], ◌∷◌, ◌++◌, length, take, drop, take-append-drop, length-take-le, IsTrue, arith}
 use Rattle.std.proofs.lemmas.Bool.{cases_lt, cond-true, cond-false, cond_both, both_ways}
 use Rattle.nk_base.specs.Byte.{is_gap}
 use Rattle.nml_lex.specs.Form.{is_end, is_space}
-use Rattle.nml_lex.proofs.Spaces.{Form, Blank, Line, Block, form_of, no_gap}
+use Rattle.nml_lex.proofs.Spaces.{Form, Blank, Line, Block, form_of}
 use Rattle.c_lex.specs.Lexing.{Lexicon, begins_comment, longest_of, longest, IsWord}
 
 -- ---- so many bytes

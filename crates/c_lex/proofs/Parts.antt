@@ -1,7 +1,7 @@
 -- The parts of bytes, in any language: one list of them, up to an end or to where the bytes are stuck.
-use Rattle.std.proofs.Common.{◌≡◌, ◌∙◌, ap, refl, sym, subst, ℕ, ◌<◌, inl, inr, List, [], ◌∷◌, ◌++◌, length, take, IsTrue, arith, take_at}
+use Rattle.std.proofs.Common.{◌≡◌, ◌∙◌, ap, refl, sym, subst, ℕ, inl, inr, List, [], ◌∷◌, ◌++◌, length, take, IsTrue, arith, take_at}
 use Rattle.std.proofs.lemmas.Bool.{both_ways}
-use Rattle.nml_lex.specs.Form.{is_end, is_space}
+use Rattle.nml_lex.specs.Form.{is_end}
 use Rattle.nml_lex.specs.Lexed.{Part, Space, Word, Piece, bytes_of, pieces, size}
 use Rattle.nml_lex.proofs.Parts.{end_halts}
 use Rattle.nml_lex.proofs.Spaces.{Same, same_space}

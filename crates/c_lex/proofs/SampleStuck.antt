@@ -1,6 +1,5 @@
 -- Worked examples: where bytes are stuck.
 use Rattle.std.proofs.Common.{◌≡◌, ℕ, refl, inl, inr, List, [], ◌∷◌, ◌++◌, codes, IsTrue, arith}
-use Rattle.nml_lex.specs.Cut.{BeginsNone}
 use Rattle.nml_lex.specs.Form.{is_shut}
 use Rattle.nml_lex.specs.Lexed.{Space, Word}
 use Rattle.nml_lex.proofs.Cuts.{block_no_space, other_no_space}

@@ -1,5 +1,5 @@
 -- That any bytes have tokens, or a place where they are stuck, in any language.
-use Rattle.std.proofs.Common.{◌≡◌, ◌∙◌, ◌⊎◌, inl, inr, ap, refl, sym, ℕ, zero, suc, ◌<◌, ◌≤◌, ◌||◌, Bool, true, false, List, [], ◌∷◌, ◌++◌, length, take, drop, IsTrue, arith, length-append, length-take-le}
+use Rattle.std.proofs.Common.{◌≡◌, ◌∙◌, ◌⊎◌, inl, inr, ap, refl, sym, ℕ, zero, suc, ◌<◌, ◌≤◌, Bool, true, false, List, [], ◌∷◌, ◌++◌, length, take, drop, IsTrue, arith, length-append, length-take-le}
 use Rattle.std.proofs.lemmas.Bool.{both_ways, or_left}
 use Rattle.nk_base.specs.Byte.{is_gap}
 use Rattle.nml_lex.specs.Cut.{Begins, BeginsNone}

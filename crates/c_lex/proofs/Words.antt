@@ -1,5 +1,5 @@
 -- A program's tokens by their first byte: which kinds it rules out.
-use Rattle.std.proofs.Common.{◌≡◌, ◌∙◌, ap, refl, sym, ℕ, ◌<◌, eqb, not, nat_le, ◌&&◌, ◌||◌, Bool, true, false, List, [], ◌∷◌, length, arith}
+use Rattle.std.proofs.Common.{◌≡◌, ◌∙◌, ap, refl, sym, [], ℕ, ◌<◌, eqb, not, nat_le, ◌&&◌, ◌||◌, Bool, true, false, List, ◌∷◌, length, arith, Some, slice_get}
 use Rattle.std.proofs.lemmas.Bool.{and_left, or_from, false_from_ne_true, leb-true}
 use Rattle.std.proofs.lemmas.Bool.Decides.{nat_tests}
 use Rattle.std.specs.Char.{is_ascii_digit, is_ascii_hexdigit}
@@ -8,7 +8,7 @@ use Rattle.nk_base.specs.Byte.{is_gap, is_name_start}
 use Rattle.nk_base.proofs.DigitsValue.{digit_is_no_name_start}
 use Rattle.nml_lex.specs.Form.{is_name, is_hexadecimal}
 use Rattle.nml_lex.proofs.Words.{among, fails_first, no_name, no_prefix}
-use Rattle.c_lex.specs.Form.{is_decimal, is_number, is_among, is_mark, is_token, marks, outside_marks}
+use Rattle.c_lex.specs.Form.{is_decimal, is_number, is_among, is_mark, is_token, marks, outside_marks, outside_words, is_outside}
 use Rattle.c_lex.specs.Lexed.{c}
 use Rattle.c_lex.proofs.Longest.{Apart}
 
@@ -67,3 +67,18 @@ long_among texts short text long = false_from_ne_true (is_among texts text) (λ 
 
 pub long_mark : (text : List ℕ) → 3 < length text → is_mark text ≡ false
 long_mark text long = or_from (is_among marks text) (is_among outside_marks text) (long_among marks refl text long) (long_among outside_marks refl text long)
+
+-- ---- what is left out
+
+-- no mark begins as a word does, and no word otherwise
+pub outside_word : (text : List ℕ) (b : ℕ) → Some b ≡ slice_get text 0 → is_name_start b ≡ true → is_among outside_words text ≡ is_outside text
+outside_word [] b e h = absurd (cc)
+outside_word (d ∷ t) b e h =
+    let g : is_name_start d ≡ true = let same : b ≡ d = cc in ap is_name_start (sym same) ∙ h in
+    sym (ap (λ x. is_among outside_words (d ∷ t) || x) (none_among is_name_start outside_marks refl d t g) ∙ or_false (is_among outside_words (d ∷ t)))
+
+pub outside_mark : (text : List ℕ) (b : ℕ) → Some b ≡ slice_get text 0 → is_name_start b ≡ false → is_among outside_marks text ≡ is_outside text
+outside_mark [] b e h = absurd (cc)
+outside_mark (d ∷ t) b e h =
+    let g : not (is_name_start d) ≡ true = let same : b ≡ d = cc in ap (λ x. not (is_name_start x)) (sym same) ∙ ap not h in
+    sym (ap (λ x. x || is_among outside_marks (d ∷ t)) (none_among (λ x. not (is_name_start x)) outside_words refl d t g))

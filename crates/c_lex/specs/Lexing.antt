@@ -1,5 +1,5 @@
 -- The tokens of bytes in any language that has the blanks and comments of a description, and where bytes have none.
-use Rattle.std.specs.Prelude.{◌≡◌, ℕ, zero, suc, ◌⊎◌, ◌<◌, ◌&&◌, ◌||◌, ◌==◌, Bool, true, false, List, [], ◌∷◌, ◌++◌, length, take, if◌then◌else◌, IsTrue, IsFalse}
+use Rattle.std.specs.Prelude.{◌≡◌, ℕ, zero, suc, ◌⊎◌, ◌<◌, ◌&&◌, ◌||◌, ◌==◌, Bool, false, List, [], ◌∷◌, ◌++◌, length, take, if◌then◌else◌, IsTrue, IsFalse}
 use Rattle.nml_lex.specs.Form.{is_space, is_end}
 use Rattle.nml_lex.specs.Lexed.{Piece, Part, Space, Word, bytes_of, pieces, size}
 

@@ -5,16 +5,48 @@ ghost use Rattle.std.specs.List.{list_any};
 ghost use Rattle.nk_base.specs.Text.{text_eq};
 ghost use Rattle.c_lex.specs.Form as spec;
 
+use nk_base::byte::is_name_start;
+
 /// The words that a program keeps for itself.
 const KEYWORDS: [&[u8]; 10] = [
-    b"int", b"void", b"if", b"else", b"while", b"do", b"for", b"break", b"continue", b"return",
+    b"int",
+    b"void",
+    b"if",
+    b"else",
+    b"while",
+    b"do",
+    b"for",
+    b"break",
+    b"continue",
+    b"return",
 ];
 
 /// The words of C that no program has.
 const OUTSIDE_WORDS: [&[u8]; 24] = [
-    b"auto", b"case", b"char", b"const", b"default", b"double", b"enum", b"extern", b"float",
-    b"goto", b"inline", b"long", b"register", b"restrict", b"short", b"signed", b"sizeof",
-    b"static", b"struct", b"switch", b"typedef", b"union", b"unsigned", b"volatile",
+    b"auto",
+    b"case",
+    b"char",
+    b"const",
+    b"default",
+    b"double",
+    b"enum",
+    b"extern",
+    b"float",
+    b"goto",
+    b"inline",
+    b"long",
+    b"register",
+    b"restrict",
+    b"short",
+    b"signed",
+    b"sizeof",
+    b"static",
+    b"struct",
+    b"switch",
+    b"typedef",
+    b"union",
+    b"unsigned",
+    b"volatile",
 ];
 
 /// The marks of C that no program has.
@@ -38,7 +70,28 @@ pub fn is_keyword(word: &[u8]) -> bool
 pub fn is_outside(token: &[u8]) -> bool
     ensures { result ≡ spec.is_outside token.now }
 {
-    is_among(token, &OUTSIDE_WORDS) || is_among(token, &OUTSIDE_MARKS)
+    let Some(first) = token.first() else {
+        return false;
+    };
+    if is_name_start(*first) {
+        is_outside_word(token)
+    } else {
+        is_outside_mark(token)
+    }
+}
+
+/// Whether the word is one of those that are left out.
+fn is_outside_word(word: &[u8]) -> bool
+    ensures { result ≡ spec.is_among spec.outside_words word.now }
+{
+    is_among(word, &OUTSIDE_WORDS)
+}
+
+/// Whether the mark is one of those that are left out.
+fn is_outside_mark(mark: &[u8]) -> bool
+    ensures { result ≡ spec.is_among spec.outside_marks mark.now }
+{
+    is_among(mark, &OUTSIDE_MARKS)
 }
 
 /// Whether the text is one of these.
