@@ -1,5 +1,6 @@
 pub mod Longest
 pub mod Parts
+pub mod Places
 pub mod Begun
 pub mod Settled
 pub mod Words

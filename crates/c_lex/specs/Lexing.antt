@@ -1,5 +1,5 @@
 -- The tokens of bytes in any language that has the blanks and comments of a description, and where bytes have none.
-use Rattle.std.specs.Prelude.{◌≡◌, ℕ, zero, suc, ◌⊎◌, ◌<◌, ◌&&◌, ◌||◌, ◌==◌, Bool, false, List, [], ◌∷◌, ◌++◌, length, take, if◌then◌else◌, IsTrue, IsFalse}
+use Rattle.std.specs.Prelude.{◌≡◌, ℕ, ◌+◌, ◌≤◌, drop, zero, suc, ◌⊎◌, ◌<◌, ◌&&◌, ◌||◌, ◌==◌, Bool, false, List, [], ◌∷◌, ◌++◌, length, take, if◌then◌else◌, IsTrue, IsFalse}
 use Rattle.nml_lex.specs.Form.{is_space, is_end}
 use Rattle.nml_lex.specs.Lexed.{Piece, Part, Space, Word, bytes_of, pieces, size}
 
@@ -60,3 +60,9 @@ pub record IsHaltedAt (l : Lexicon) (bytes : List ℕ) (at : ℕ) : Type 0 where
   pub begins : BeginsWith l bytes parts left
   pub stuck : IsStuck l left
   pub is : at ≡ size parts
+
+-- Each of the tokens has a byte, is what the bytes have at its place, and begins no sooner than the one before it ends; the first begins no
+-- sooner than here.
+abbrev pub StandFrom : List ℕ → ℕ → List Piece → Type 0
+StandFrom bytes from [] = Unit {0}
+StandFrom bytes from (p ∷ ps) = (from ≤ p.at) × (0 < length p.text) × (take (length p.text) (drop p.at bytes) ≡ p.text) × StandFrom bytes (p.at + length p.text) ps

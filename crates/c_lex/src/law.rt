@@ -1,6 +1,7 @@
 ghost use Rattle.std.specs.Prelude.{◌≡◌, ◌⊎◌, ℕ, List};
 ghost use Rattle.nml_lex.specs.Lexed.{Piece};
 ghost use Rattle.c_lex.specs.Lexed.{HasPieces, IsStuckAt};
+ghost use Rattle.c_lex.specs.Lexing.{StandFrom};
 
 /// A law: no bytes have two lists of tokens; where they have one they are stuck nowhere; and they are stuck at one place at most.
 ///
@@ -16,4 +17,11 @@ pub fn one_lexing()
 /// What a token is, is this project's own rule.
 pub fn some_lexing()
     ensures { (bytes : List ℕ) → ((ps : List Piece) × HasPieces bytes ps) ⊎ ((at : ℕ) × IsStuckAt bytes at) }
+{}
+
+/// A law: each token of the bytes is what they have at its place, and has a byte; it begins no sooner than the one before it ends.
+///
+/// What a token is, is this project's own rule.
+pub fn tokens_stand()
+    ensures { (bytes : List ℕ) (ps : List Piece) → HasPieces bytes ps → StandFrom bytes 0 ps }
 {}

@@ -10,7 +10,7 @@ mod vocabulary;
 mod word;
 
 pub use fault::LexFault;
-pub use law::{one_lexing, some_lexing};
+pub use law::{one_lexing, some_lexing, tokens_stand};
 pub use limit::number_value;
 pub use scan::lex;
 pub use vocabulary::{is_keyword, is_outside};
