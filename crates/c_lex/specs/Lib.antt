@@ -1,0 +1,4 @@
+pub mod Form
+pub mod Lexing
+pub mod Lexed
+pub mod Sample

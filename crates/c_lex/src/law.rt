@@ -1,0 +1,27 @@
+ghost use Rattle.std.specs.Prelude.{◌≡◌, ◌⊎◌, ℕ, List};
+ghost use Rattle.nml_lex.specs.Lexed.{Piece};
+ghost use Rattle.c_lex.specs.Lexed.{HasPieces, IsStuckAt};
+ghost use Rattle.c_lex.specs.Lexing.{StandFrom};
+
+/// A law: no bytes have two lists of tokens; where they have one they are stuck nowhere; and they are stuck at one place at most.
+///
+/// What a token is, is this project's own rule.
+pub fn one_lexing()
+    ensures one { (bytes : List ℕ) (ps qs : List Piece) → HasPieces bytes ps → HasPieces bytes qs → ps ≡ qs }
+    ensures never { (bytes : List ℕ) (ps : List Piece) (at : ℕ) → HasPieces bytes ps → IsStuckAt bytes at → ⊥ }
+    ensures place { (bytes : List ℕ) (at other : ℕ) → IsStuckAt bytes at → IsStuckAt bytes other → at ≡ other }
+{}
+
+/// A law: any bytes have tokens, or a place where they are stuck; one of the two can be computed from them.
+///
+/// What a token is, is this project's own rule.
+pub fn some_lexing()
+    ensures { (bytes : List ℕ) → ((ps : List Piece) × HasPieces bytes ps) ⊎ ((at : ℕ) × IsStuckAt bytes at) }
+{}
+
+/// A law: each token of the bytes is what they have at its place, and has a byte; it begins no sooner than the one before it ends.
+///
+/// What a token is, is this project's own rule.
+pub fn tokens_stand()
+    ensures { (bytes : List ℕ) (ps : List Piece) → HasPieces bytes ps → StandFrom bytes 0 ps }
+{}

@@ -1,0 +1,39 @@
+ghost use Rattle.std.specs.Prelude.{◌≤◌, length, map, MatchResult};
+ghost use Rattle.nml_lex.specs.Lexed.{piece_of};
+ghost use Rattle.c_lex.specs.Lexed.{HasPieces, IsLexFault};
+
+use crate::fault::LexFault;
+use crate::limit::is_within;
+use crate::space::{behind_space, is_end};
+use crate::word::token_length;
+use nml_lex::{Token, Tokens};
+use std::alloc::Global;
+
+/// The tokens of a program's bytes, each the slice of the bytes at its place; places rise.
+///
+/// `Stuck` comes exactly where a byte begins no token, or the longest token there is over its limit, at the least such place. The other
+/// error is want of memory. The words and marks of C that no program here has are tokens too. What a token is, and what stands between
+/// tokens, is this project's own rule; docs/LANGUAGES.md states it.
+pub fn lex(alloc: Global, bytes: &[u8]) -> Result<Tokens<'_>, LexFault>
+    requires { length bytes.now ≤ 4194304 }
+    ensures { MatchResult result (λ t. HasPieces bytes.now (map piece_of t.list.items)) (IsLexFault bytes.now) }
+{
+    let mut list = Vec::new(alloc);
+    let mut rest = bytes;
+    loop {
+        if let Some(behind) = behind_space(rest) {
+            rest = behind;
+            continue;
+        }
+        if is_end(rest) {
+            return Ok(Tokens { list });
+        }
+        let at = (bytes.len() - rest.len()) as u32;
+        let (text, behind) = rest.split_at(token_length(rest));
+        if text.is_empty() || !is_within(text) {
+            return Err(LexFault::Stuck { at: u64::from(at) });
+        }
+        list.push(Token { at, text })?;
+        rest = behind;
+    }
+}
