@@ -1,5 +1,5 @@
 -- What nodes write out: the expressions, arguments and commands of a resolved program.
-use Rattle.std.specs.Prelude.{◌≡◌, ℕ, ◌<◌, ◌≤◌, ◌==◌, ℤ, pos, List, [], ◌∷◌, length, reverse, Some, None, slice_get, if◌then◌else◌}
+use Rattle.std.specs.Prelude.{◌≡◌, ℕ, ◌<◌, ◌≤◌, ◌==◌, List, [], ◌∷◌, length, reverse, Some, None, slice_get, if◌then◌else◌}
 use Rattle.c_tree.specs.Program.{Term, Terms, Command}
 use Rattle.c_tree.specs.Program as program
 use Rattle.std.specs.Prelude.{unsigned_abs}
