@@ -1,11 +1,10 @@
 -- What names mean behind statements: the cells of all that stands in them are taken, and nothing else is changed.
 use Rattle.std.proofs.Common.{◌≡◌, ℕ, ◌+◌, refl, ap, sym, ◌∙◌, arith, List, [], ◌∷◌, ◌++◌, map, Option, Some, None}
 use Rattle.c_tree.specs.declared.program.Param.{Param}
-use Rattle.c_tree.specs.declared.names.TypeWord.{TypeWord}
 use Rattle.c_tree.specs.Formula.{Formula}
-use Rattle.c_tree.specs.Statement.{Act, Variable, Opening, Acts, Declares, Statement, Braces, Empty, Simply, Break, Continue, Return, If, IfElse, While, Do, For, Body, Nothing, Declare, Then}
+use Rattle.c_tree.specs.Statement.{Act, Variable, Opening, Acts, Declares, Statement, Braces, For, Body, Nothing, Declare, Then}
 use Rattle.c_tree.specs.Program.{Shape, size, sizes}
-use Rattle.c_tree.specs.Names.{Meanings, Names, inner, shape, declared_variables, behind_variable, behind_variables, behind_opening, behind_statement, behind_parameters, opening_shapes, statement_shapes, body_shapes}
+use Rattle.c_tree.specs.Names.{Names, inner, shape, declared_variables, behind_variable, behind_variables, behind_opening, behind_statement, behind_parameters, opening_shapes, statement_shapes, body_shapes}
 use Rattle.c_names.specs.Shown.{outside}
 use Rattle.c_check.specs.Walk.{behind_body}
 

@@ -1,5 +1,5 @@
 -- How many arguments there are.
-use Rattle.std.proofs.Common.{◌≡◌, refl, arith, ℕ, ◌+◌, List, [], ◌∷◌, map, length}
+use Rattle.std.proofs.Common.{◌≡◌, refl, arith, ℕ, List, [], ◌∷◌, map, length}
 use Rattle.c_tree.specs.declared.expression.Expr.{Expr}
 use Rattle.c_tree.specs.Formula.{formula, further}
 use Rattle.c_tree.specs.Faults.{further_count}

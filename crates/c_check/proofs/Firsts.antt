@@ -1,5 +1,5 @@
 -- What was met first is a fault of the program, and where nothing was met there is none.
-use Rattle.std.proofs.Common.{ℕ, ◌≡◌, ◌≤◌, ◌<◌, ◌+◌, refl, sym, ◌∙◌, ap, subst, arith, min, List, [], ◌∷◌, ◌++◌, length, Option, Some, None, inl, inr, Bool, true, false, flat_map}
+use Rattle.std.proofs.Common.{ℕ, ◌≡◌, ◌≤◌, refl, sym, ◌∙◌, ap, subst, arith, min, List, [], ◌∷◌, Option, Some, None, inl, inr, flat_map}
 use Rattle.std.specs.Prelude.{◌⊎◌}
 use Rattle.c_tree.specs.declared.fault.CFault.{CFault}
 use Rattle.c_tree.specs.declared.fault.CFault.TheVariants as fault

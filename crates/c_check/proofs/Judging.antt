@@ -8,7 +8,7 @@ use Rattle.c_tree.specs.Names.{functions_in, parameters}
 use Rattle.c_tree.specs.Faults.{faults}
 use Rattle.c_tree.specs.Recursion.{Graph, Reaches, IsAcyclic, calls_of, others, main_of}
 use Rattle.c_tree.specs.Accepted.{IsAccepted, IsFaultOf}
-use Rattle.c_check.specs.Search.{LeastOf}
+use Rattle.c_cycle.specs.Search.{LeastOf}
 use Rattle.c_check.specs.First.{IsNamed, recursion_of}
 
 pub acyclic : (g h : Graph) (o : Option ℕ) → LeastOf (λ a. Reaches g a a) o → o ≡ None → g ≡ h → IsAcyclic h

@@ -3,7 +3,6 @@ pub mod Counts
 pub mod Powers
 pub mod Initials
 pub mod Behind
-pub mod Search
 pub mod Firsts
 pub mod Judging
 pub mod OneFault

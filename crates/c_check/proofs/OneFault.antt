@@ -1,9 +1,9 @@
 -- A program has one fault at most, want of memory apart, and an accepted program has none.
-use Rattle.std.proofs.Common.{ℕ, ◌≡◌, ◌≤◌, ◌<◌, refl, sym, ◌∙◌, ap, subst, arith, List, [], length, Option, Some, None, inl, inr, flat_map}
+use Rattle.std.proofs.Common.{ℕ, ◌≡◌, refl, sym, ◌∙◌, ap, subst, arith, List, [], length, Some, inl, inr, flat_map}
 use Rattle.std.specs.Prelude.{slice_get}
 use Rattle.c_tree.specs.declared.fault.CFault.{CFault}
 use Rattle.c_tree.specs.declared.fault.CFault.TheVariants as fault
-use Rattle.c_tree.specs.Items.{Definition, Item}
+use Rattle.c_tree.specs.Items.{Item}
 use Rattle.c_tree.specs.Names.{functions_in, parameters}
 use Rattle.c_tree.specs.Faults.{name_place, kind_place, number_place, shift_place, faults, bad_names, bad_kinds, bad_numbers, bad_shifts}
 use Rattle.c_tree.specs.Recursion.{Among, others, IsFirstRecursive}

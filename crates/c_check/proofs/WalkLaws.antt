@@ -4,10 +4,9 @@ use Rattle.std.specs.Result.{OnOk}
 use Rattle.std.specs.declared.result.Result.{Result}
 use Rattle.std.specs.declared.result.Result.TheVariants.{Ok, Err}
 use Rattle.c_tree.specs.declared.names.Name.{Name}
-use Rattle.c_tree.specs.Formula.{Formula, Further, CalledWith}
-use Rattle.c_tree.specs.Statement.{Invoke}
+use Rattle.c_tree.specs.Formula.{Formula, Further}
 use Rattle.c_tree.specs.Names.{Names, callee}
-use Rattle.c_tree.specs.Faults.{Fault, call_faults, further_count, formula_faults, further_faults, act_faults}
+use Rattle.c_tree.specs.Faults.{Fault, call_faults, further_count, formula_faults, further_faults}
 use Rattle.c_tree.specs.Recursion.{callee_of, formula_callees, further_callees}
 use Rattle.c_check.specs.declared.note.Found.{Found}
 use Rattle.c_check.specs.Note.{noted, with_fault}

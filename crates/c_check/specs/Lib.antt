@@ -1,4 +1,3 @@
 pub mod Note
 pub mod Walk
-pub mod Search
 pub mod First

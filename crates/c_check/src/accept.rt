@@ -9,10 +9,10 @@ ghost use Rattle.c_tree.specs.Accepted.{IsAcceptedTree, IsTreeFaultOf};
 ghost use Rattle.c_check.specs.Note.{nothing};
 ghost use Rattle.c_check.specs.First.{IsFirst, IsNamed, recursion_of};
 
-use crate::cycle::first_cycle;
 use crate::global::note_all;
 use crate::note::Found;
 use crate::numbers::width_of;
+use c_cycle::first_cycle;
 use c_names::{count_of, is_main};
 use c_tree::{CFault, CProg, CTree, Global as CGlobal};
 use nk_base::{Memory, Text};

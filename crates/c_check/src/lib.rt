@@ -2,16 +2,12 @@
 #![tactic(auto)]
 
 mod accept;
-mod cycle;
 mod declaration;
 mod expression;
 mod global;
-mod guess;
 mod laws;
 mod note;
 mod numbers;
-mod rank;
-mod reach;
 mod statement;
 
 pub use accept::check;

@@ -1,5 +1,5 @@
 -- What a node writes out stays the same when nodes are added, and is one node over what the others write out.
-use Rattle.std.proofs.Common.{◌≡◌, ℕ, zero, suc, ◌<◌, ◌≤◌, List, [], ◌∷◌, ◌++◌, length, reverse, Option, Some, None, refl, ap, sym, ◌∙◌, subst, arith, length-append, ⊎_elim}
+use Rattle.std.proofs.Common.{◌≡◌, ℕ, zero, suc, ◌<◌, ◌≤◌, List, [], ◌∷◌, ◌++◌, length, reverse, Some, refl, ap, sym, ◌∙◌, subst, arith, length-append, ⊎_elim}
 use Rattle.std.proofs.lemmas.Bool.{cases_lt}
 use Rattle.std.specs.Prelude.{slice_get, ◌==◌, if◌then◌else◌}
 use Rattle.std.proofs.lemmas.List.{reverse-append, length-reverse, reverse-reverse}
@@ -127,3 +127,24 @@ grew_push nodes x n falls b is = record {
   within = omega (arith, length-append nodes (x ∷ []));
   is = written_new nodes x n is;
 }
+
+-- a node over one part, over two
+pub grew_over : (a b c : List Node) (w r : Written) (x : Node) (i n : ℕ) → Grew a b w i → Grew b c (one x (written b)) n → ((f : ℕ → Written) → f i ≡ w → one x f ≡ r) → Grew a c r n
+grew_over a b c w r x i n g h is = record {
+  extends = Extends-trans a b c g.extends h.extends;
+  falls = h.falls;
+  within = h.within;
+  is = h.is ∙ is (written b) g.is;
+}
+
+pub grew_both : (a b c d : List Node) (v w r : Written) (x : Node) (i j n : ℕ) → Grew a b v i → Grew b c w j → Grew c d (one x (written c)) n → ((f : ℕ → Written) → f i ≡ v → f j ≡ w → one x f ≡ r) → Grew a d r n
+grew_both a b c d v w r x i j n g h k is = record {
+  extends = Extends-trans a b d g.extends (Extends-trans b c d h.extends k.extends);
+  falls = k.falls;
+  within = k.within;
+  is = k.is ∙ is (written c) (h.extends.same i g.within ∙ g.is) h.is;
+}
+
+-- the first part still stands before what is put behind the second
+pub first_below : (a b c : List Node) (v w : Written) (i j : ℕ) → Grew a b v i → Grew b c w j → i < length c
+first_below a b c v w i j g h = omega (arith, g.within, h.extends.longer)

@@ -1,8 +1,7 @@
 -- What nodes write out: the expressions, arguments and commands of a resolved program.
-use Rattle.std.specs.Prelude.{◌≡◌, ℕ, ◌<◌, ◌≤◌, ◌==◌, ℤ, pos, List, [], ◌∷◌, length, reverse, Some, None, slice_get, if◌then◌else◌}
+use Rattle.std.specs.Prelude.{◌≡◌, ℕ, ◌<◌, ◌≤◌, ◌==◌, List, [], ◌∷◌, length, reverse, Some, None, slice_get, if◌then◌else◌}
 use Rattle.c_tree.specs.Program.{Term, Terms, Command}
 use Rattle.c_tree.specs.Program as program
-use Rattle.std.specs.Prelude.{unsigned_abs}
 use Rattle.c_flat.specs.declared.node.Node.{Node}
 use Rattle.c_flat.specs.declared.node.Node.TheVariants as node
 
@@ -27,7 +26,7 @@ as_command _ = program.Skip
 
 -- one node, over what the earlier ones write out
 abbrev pub one : Node → (ℕ → Written) → Written
-one (node.Number z) f = OfTerm (program.Number (unsigned_abs z))
+one (node.Number z) f = OfTerm (program.Number z)
 one (node.Scalar p) f = OfTerm (program.Scalar p)
 one (node.Element p n i) f = OfTerm (program.Element p n (as_term (f i)))
 one node.Input f = OfTerm program.Input

@@ -11,7 +11,7 @@ use nk_base::Memory;
 #[derive(Clone, Copy)]
 pub enum Node {
     /// A number.
-    Number(i64),
+    Number(u64),
     /// A variable's value.
     Scalar(Place),
     /// An element of an array of this length.
@@ -21,7 +21,7 @@ pub enum Node {
     /// A call of the function of this number.
     Call(usize, usize),
     Unary(Prefix, usize),
-    Shifted(Shift, usize, u32),
+    Shifted(Shift, usize, u64),
     Arithmetic(Arith, usize, usize),
     Compare(Rel, usize, usize),
     Not(usize),

@@ -1,13 +1,13 @@
 -- Each step of the machine keeps what the rest of the run gives.
-use Rattle.std.proofs.Common.{◌≡◌, refl, ◌∙◌, sym, subst, ℕ, zero, suc, ℤ, pos, Bool, true, false, ◌&&◌, List, [], ◌∷◌, Option, Some, None}
-use Rattle.std.specs.Prelude.{int_le, int_lt, unsigned_abs, slice_get}
+use Rattle.std.proofs.Common.{◌≡◌, refl, sym, subst, ℕ, zero, suc, ℤ, pos, Bool, true, false, ◌&&◌, List, [], ◌∷◌, Option, Some, None}
+use Rattle.std.specs.Prelude.{int_le, int_lt, slice_get}
 use Rattle.nk_outside.specs.Outcome.{Outcome}
 use Rattle.nk_outside.specs.declared.stop.Stop.TheVariants as stops
 use Rattle.c_tree.specs.Program.{Term, Terms, Command, Function, Program}
 use Rattle.c_tree.specs.Program as program
 use Rattle.c_tree.specs.Meaning.{State, Next, NextOf, stopped, paid, take_next, either, is_true, entered, base_of, outcome}
-use Rattle.c_frames.specs.Frames.{Where, Loop, While, Do, For, Frame, Element, Unary, Shifted, ArithmeticRight, ArithmeticLeft, CompareRight, CompareLeft, Negate, AndRight, OrRight, AsTruth, Argument, Passed, Calling, SetTo, StoreIndex, StoreAt, ChangeIndex, ChangeAt, Show, Drop, Choose, Tested, Giving, Behind, Looping, Stepping, Starting, Called, Work, Eval, Arguments, Give, Pass, Run, Again, On, Leave, Onward, Back, frame_at, give, ways, pass, rest}
-use Rattle.c_frames.specs.Steps.{Config, Move, Goes, Stops, either_move, paying, taking, testing, enter, step_call, step_eval, step_arguments, step_give, step_pass, step_run, step_test, step_again, step_looped, step_on, step_leave, step_onward, step_back, step_of, step, rest_of, after, follow, Follows, begin}
+use Rattle.c_frames.specs.Frames.{Where, Loop, While, Do, For, Frame, Element, AndRight, OrRight, Passed, Calling, StoreIndex, ChangeIndex, Choose, Tested, Behind, Looping, Work, Eval, Arguments, Give, Pass, Run, Again, On, Leave, Onward, Back, frame_at, give, pass, rest}
+use Rattle.c_frames.specs.Steps.{Config, Move, Goes, Stops, either_move, paying, taking, enter, step_call, step_eval, step_arguments, step_give, step_pass, step_run, step_again, step_on, step_leave, step_onward, step_back, step_of, step, rest_of, after, follow, Follows, begin}
 
 module _ (p : Program) (n : ℕ) where
   abbrev Keeps : Outcome → Move p n → Type 0

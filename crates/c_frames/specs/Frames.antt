@@ -1,5 +1,5 @@
 -- What waits in a machine that runs a program, and what the rest of the run gives: each frame is what comes behind a part.
-use Rattle.std.specs.Prelude.{ℕ, suc, ◌+◌, ℤ, pos, not, List, [], ◌∷◌, ◌++◌, Option}
+use Rattle.std.specs.Prelude.{ℕ, ◌+◌, ℤ, pos, not, List, [], ◌∷◌, ◌++◌, Option}
 use Rattle.ir_core.specs.declared.operator.Prefix.{Prefix}
 use Rattle.ir_core.specs.declared.operator.Shift.{Shift}
 use Rattle.ir_core.specs.declared.operator.Arith.{Arith}

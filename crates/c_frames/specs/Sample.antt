@@ -2,7 +2,7 @@
 use Rattle.std.specs.Prelude.{◌≡◌, refl, pos, negsuc, [], ◌∷◌}
 use Rattle.nk_outside.specs.declared.stop.Stop.TheVariants as stops
 use Rattle.c_tree.specs.Resolve.{resolved_items}
-use Rattle.c_tree.specs.Texts.{echo, array}
+use Rattle.c_tree.specs.Texts.{echo}
 use Rattle.c_frames.specs.Steps.{Stops, begin, follow}
 
 -- one turn, and the greatest number and 1 is put out as the least one

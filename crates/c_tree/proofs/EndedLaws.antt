@@ -6,7 +6,7 @@ use Rattle.c_tree.specs.declared.names.Name.{Name}
 use Rattle.c_tree.specs.Symbol.{Symbol, fixed}
 use Rattle.c_tree.specs.Formula.{Formula, Further, CalledWith}
 use Rattle.c_tree.specs.Spell.{name_spelling, formula_spelling, further_spelling}
-use Rattle.c_tree.specs.Joined.{symbol_text, joined}
+use Rattle.c_tree.specs.Joined.{joined}
 use Rattle.c_tree.specs.Ended.{ended}
 
 pub ended-append : (a b : List Symbol) → ended (a ++ b) ≡ ended a ++ ended b

@@ -1,5 +1,5 @@
 -- Which small programs are accepted with numbers of 16 bits, and why others aren't.
-use Rattle.std.specs.Prelude.{◌≡◌, refl, ℕ, List, [], ◌∷◌, Some, None, codes}
+use Rattle.std.specs.Prelude.{refl, ℕ, List, [], ◌∷◌, Some, codes}
 use Rattle.c_tree.specs.declared.names.TypeWord.TheVariants as type_word
 use Rattle.c_tree.specs.declared.program.ResultWord.TheVariants as result_word
 use Rattle.c_tree.specs.declared.program.Params.TheVariants as params

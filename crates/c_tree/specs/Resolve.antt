@@ -3,7 +3,6 @@ use Rattle.std.specs.Prelude.{ℕ, ℤ, pos, neg_ℤ, Bool, true, false, not, Li
 use Rattle.nk_base.specs.Text.{text_eq}
 use Rattle.ir_core.specs.declared.operator.Prefix.TheVariants as prefix
 use Rattle.ir_core.specs.declared.operator.Shift.TheVariants as shift
-use Rattle.ir_core.specs.declared.operator.Arith.{Arith}
 use Rattle.ir_core.specs.declared.operator.Arith.TheVariants as arith
 use Rattle.ir_core.specs.declared.relation.Rel.TheVariants as rel
 use Rattle.c_tree.specs.declared.operator.Bin.{Bin}

@@ -1,5 +1,5 @@
 -- Worked examples of operators on numbers of 16 bits, each by computation.
-use Rattle.std.specs.Prelude.{◌≡◌, refl, pos, negsuc, true, false, [], ◌∷◌, All}
+use Rattle.std.specs.Prelude.{◌≡◌, refl, pos, negsuc, true, false}
 use Rattle.ir_core.specs.declared.operator.Prefix.TheVariants as prefix
 use Rattle.ir_core.specs.declared.operator.Shift.TheVariants as shift
 use Rattle.ir_core.specs.declared.operator.Arith.TheVariants as arith

@@ -1,8 +1,8 @@
 use Rattle.std.proofs.Common.{refl}
 use Rattle.c_tree.specs.Statement.{variable}
 use Rattle.c_tree.specs.Names.{behind_variable, behind_variables}
-use Rattle.c_tree.specs.Faults.{variable_faults, variables_faults}
-use Rattle.c_tree.specs.Recursion.{variable_callees, variables_callees}
+use Rattle.c_tree.specs.Faults.{variables_faults}
+use Rattle.c_tree.specs.Recursion.{variables_callees}
 use Rattle.c_names.specs.Shown.{names}
 use Rattle.c_check.specs.Walk.{listed}
 use Rattle.c_check.proofs.WalkLaws.{loop_found, loop_calls, loop_names}

@@ -1,7 +1,7 @@
 use Rattle.std.proofs.Common.{refl, map, true}
 use Rattle.c_tree.specs.Formula.{formula, further}
-use Rattle.c_tree.specs.Faults.{formula_faults, further_faults}
-use Rattle.c_tree.specs.Recursion.{formula_callees, further_callees}
+use Rattle.c_tree.specs.Faults.{further_faults}
+use Rattle.c_tree.specs.Recursion.{further_callees}
 use Rattle.c_tree.proofs.FormulaLaws.{formula-Call_with}
 use Rattle.c_names.specs.Shown.{names}
 use Rattle.c_check.proofs.WalkLaws.{called_found, called_calls, loop_found, loop_calls}

@@ -1,5 +1,5 @@
-use Rattle.std.proofs.Common.{◌≡◌, ◌∙◌, ap, sym, false, ◌++◌}
-use Rattle.c_tree.specs.Statement.{body, block}
+use Rattle.std.proofs.Common.{◌∙◌, ap, sym, false, ◌++◌}
+use Rattle.c_tree.specs.Statement.{body}
 use Rattle.c_tree.specs.Names.{Names, inner, parameters, behind_parameters, before_parameters, before_body}
 use Rattle.c_tree.specs.Resolve.{body_of}
 use Rattle.c_tree.specs.Faults.{declared_faults, params_faults, body_faults, giving}

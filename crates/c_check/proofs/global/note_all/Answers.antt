@@ -4,7 +4,6 @@ use Rattle.c_tree.specs.Names.{behind_global}
 use Rattle.c_tree.specs.Faults.{globals_faults}
 use Rattle.c_tree.specs.Recursion.{graph}
 use Rattle.c_names.specs.Shown.{names}
-use Rattle.c_check.specs.Note.{noted}
 use Rattle.c_check.proofs.WalkLaws.{loop_found, loop_any}
 use Rattle.c_check.proofs.global.note_all.Goals as goal
 

@@ -1,4 +1,4 @@
-use Rattle.std.proofs.Common.{◌≡◌, ◌∙◌, ap}
+use Rattle.std.proofs.Common.{◌∙◌, ap}
 use Rattle.c_tree.specs.Statement.{body, statement}
 use Rattle.c_tree.specs.Names.{inner, behind_statement, statement_shapes}
 use Rattle.c_tree.proofs.StatementLaws.{block_is, statement-Block, statement-If_else}
