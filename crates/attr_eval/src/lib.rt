@@ -1,0 +1,10 @@
+//! The attributes of a derivation, by the definitions: the reference for what the tools do faster.
+#![tactic(auto)]
+
+mod piece;
+mod run;
+mod skip;
+mod turn;
+mod word;
+
+pub use word::image;
