@@ -3,3 +3,4 @@ pub mod Digits
 pub mod Pieces
 pub mod Images
 pub mod Whole
+pub mod Syntaxes

@@ -4,7 +4,9 @@
 mod piece;
 mod run;
 mod skip;
+mod text;
 mod turn;
 mod word;
 
+pub use text::syntax;
 pub use word::image;
