@@ -28,13 +28,13 @@ fn name_of(item: &Item) -> &Text
 /// The first item that declares the name, and the items before it; `None` exactly where none declares it.
 ///
 /// Each search goes through the items from the first one on. It takes no memory.
-pub fn find<'a>(items: &'a [Item], name: &Text) -> Option<(&'a [Item], &'a Item)>
+pub fn find<'a>(items: &'a [Item], name: &[u8]) -> Option<(&'a [Item], &'a Item)>
     ensures none { MatchOption result (declared (entries [] items.now) name.now ≡ None) (λ x. declared (entries [] items.now) name.now ≡ Some (entry (entries [] x.0.now) x.1.now).1) }
     ensures before { IfSome result (λ x. length x.0.now < length items.now) }
 {
     for i in 0..items.len() {
         let item = &items[i];
-        if name == name_of(item) {
+        if name == name_of(item).as_bytes() {
             return Some((&items[..i], item));
         }
     }
@@ -49,7 +49,7 @@ pub fn natural_size(items: &[Item], size: &Size) -> u64
 {
     match size {
         Size::Number(number) => number.value,
-        Size::Name(name) => match find(items, &name.text) {
+        Size::Name(name) => match find(items, name.text.as_bytes()) {
             None => 0,
             Some((_, item)) => natural_of(item),
         },
@@ -78,12 +78,13 @@ fn natural_of(item: &Item) -> u64
     }
 }
 
-/// The type that is written, or that of the name that stands there. It takes no memory.
+/// The type that is written, or that of the name that stands there, where it has 1 to 64 bits; of another type nothing is said.
+///
+/// It takes no memory.
 ///
 /// A name is followed from one `type` to the next before it, each found by a search from the first item on.
 pub fn type_value(items: &[Item], e: &TypeExpr) -> Ty
-    requires { is_type (type_or_none (entries [] items.now) e.now) ≡ true }
-    ensures { result ≡ type_or_none (entries [] items.now) e.now }
+    ensures { is_type (type_or_none (entries [] items.now) e.now) ≡ true → result ≡ type_or_none (entries [] items.now) e.now }
 {
     let mut items = items;
     let mut e = e;
@@ -101,7 +102,7 @@ fn named<'a>(items: &'a [Item], e: &'a TypeExpr) -> Option<(&'a [Item], &'a Type
     ensures none { result ≡ None → NamesNone (entries [] items.now) e.now }
 {
     match e {
-        TypeExpr::Name(name) => match find(items, &name.text) {
+        TypeExpr::Name(name) => match find(items, name.text.as_bytes()) {
             None => None,
             Some((before, item)) => match written_type(item) {
                 None => None,
@@ -137,9 +138,8 @@ fn written_type(item: &Item) -> Option<&TypeExpr>
 
 /// The type that is written with its size, or that of the name that stands there.
 fn plain_type(items: &[Item], e: &TypeExpr) -> Ty
-    requires last { NamesNone (entries [] items.now) e.now }
-    requires right { is_type (type_or_none (entries [] items.now) e.now) ≡ true }
-    ensures { result ≡ type_or_none (entries [] items.now) e.now }
+    requires { NamesNone (entries [] items.now) e.now }
+    ensures { is_type (type_or_none (entries [] items.now) e.now) ≡ true → result ≡ type_or_none (entries [] items.now) e.now }
 {
     match e {
         TypeExpr::Bool(_) => Ty::Bool,
@@ -153,9 +153,10 @@ fn plain_type(items: &[Item], e: &TypeExpr) -> Ty
     }
 }
 
+/// The number, where it is 64 at most.
 fn few(bits: u64) -> u32
-    requires { bits ≤ 64 }
-    ensures { result ≡ bits }
+    ensures exact { bits ≤ 64 → result ≡ bits }
+    ensures few { result ≤ 65 }
 {
-    bits as u32
+    if bits <= 64 { bits as u32 } else { 65 }
 }

@@ -15,11 +15,11 @@ use Rattle.nml_state.proofs.lookup.find.Goals as goal
 pub returns-then-eq-clause-none : goal.returns-then-eq-clause-none
 returns-then-eq-clause-none c =
     let e : text_eq c.args.name.now (declares (get_or c.args.items.now c.loop-i.i c.index-items-i.result)).text ≡ true =
-    ap (λ x. text_eq c.args.name.now (declares x).text) (sym c.index-items-i.is) ∙ ap (λ x. text_eq c.args.name.now x) (sym c.name_of.ensures) ∙ sym c.eq.ensures ∙ c.if-eq.true in
+    ap (λ x. text_eq c.args.name.now (declares x).text) (sym c.index-items-i.is) ∙ ap (λ x. text_eq c.args.name.now x) (sym (c.as_bytes.ensures ∙ c.name_of.ensures)) ∙ sym c.eq.ensures ∙ c.if-eq.true in
     found_here c.args.items.now c.loop-i.i c.index-items-i.result c.args.name.now c.loop-i-test.true c.loop-i.invariant e ∙ ap (λ x. Some (entry (entries [] (take c.loop-i.i c.args.items.now)) x).1) (sym c.index-items-i.is)
 
 pub loop-i-preserved : goal.loop-i-preserved
 loop-i-preserved c =
     let e : text_eq c.args.name.now (declares (get_or c.args.items.now c.loop-i.i c.index-items-i.result)).text ≡ false =
-    ap (λ x. text_eq c.args.name.now (declares x).text) (sym c.index-items-i.is) ∙ ap (λ x. text_eq c.args.name.now x) (sym c.name_of.ensures) ∙ sym c.eq.ensures ∙ c.if-eq.false in
+    ap (λ x. text_eq c.args.name.now (declares x).text) (sym c.index-items-i.is) ∙ ap (λ x. text_eq c.args.name.now x) (sym (c.as_bytes.ensures ∙ c.name_of.ensures)) ∙ sym c.eq.ensures ∙ c.if-eq.false in
     next_none c.args.items.now c.loop-i.i c.index-items-i.result c.args.name.now c.loop-i-test.true c.loop-i.invariant e

@@ -1,0 +1,4 @@
+pub mod Walks
+pub mod Turn
+pub mod Run
+pub mod Found
