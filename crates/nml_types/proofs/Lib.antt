@@ -1,0 +1,4 @@
+pub mod Notes
+pub mod Declarations
+pub mod Items
+pub mod Turns
