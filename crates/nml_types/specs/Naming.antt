@@ -5,6 +5,7 @@ use Rattle.nk_base.specs.Text.{text_eq}
 use Rattle.nml_tree.specs.declared.tree.Item.{Item}
 use Rattle.nml_tree.specs.declared.tree.Item.TheVariants as item
 use Rattle.nml_tree.specs.Table.{Text}
+use Rattle.nml_tree.specs.NameFault.{is_rule}
 use Rattle.nml_tree.specs.Uses.{declares}
 use Rattle.nml_types.specs.declared.names.Declaration.{Declaration}
 
@@ -23,7 +24,7 @@ least_place at (Some d) = min at d.place
 abbrev pub declaration : ℕ → List Item → Text → Option Declaration
 declaration k [] name = None
 declaration k (i ∷ items) name =
-    if text_eq name (declares i).text then Some (record { first = k; place = least_place (declares i).at (declaration (k + 1) items name); late = is_late i })
+    if text_eq name (declares i).text then Some (record { first = k; place = least_place (declares i).at (declaration (k + 1) items name); late = is_late i; rule = is_rule i })
     else declaration (k + 1) items name
 
 -- the entries have the names that the items declare

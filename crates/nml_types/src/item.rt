@@ -121,7 +121,7 @@ fn is_register(item: &Item) -> bool
 }
 
 /// Whether the item is a rule.
-fn is_rule(item: &Item) -> bool
+pub fn is_rule(item: &Item) -> bool
     ensures { result ≡ faults.is_rule item.now }
 {
     match item {

@@ -1,13 +1,20 @@
 //! Whether a description is well typed: each fault of names, kinds and widths, at its first place.
 #![tactic(auto)]
 
+mod below;
+mod cycle;
+mod first_loop;
+mod guess;
 mod item;
 mod name_fault;
 mod names;
 mod note;
+mod order;
 mod parameters;
+mod reach;
 mod scope;
 mod used;
 mod used_stmt;
 
+pub use cycle::first_cycle;
 pub use name_fault::first_name_fault;

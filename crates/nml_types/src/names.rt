@@ -6,6 +6,7 @@ ghost use Rattle.nml_tree.specs.Uses.{declares};
 ghost use Rattle.nml_types.specs.Naming as spec;
 ghost use Rattle.nml_types.specs.Naming.{AreDeclared};
 
+use crate::item::is_rule;
 use indexmap::IndexMap;
 use nk_base::{Memory, Text};
 use nml_tree::{Item, Name};
@@ -20,6 +21,8 @@ pub struct Declaration {
     pub place: u32,
     /// Whether the first is neither a `let` nor a `type`, and so may stand behind a use.
     pub late: bool,
+    /// Whether the first is a rule.
+    pub rule: bool,
 }
 
 /// The name that the item declares.
@@ -77,6 +80,7 @@ pub fn declarations(alloc: Global, items: &[Item]) -> Result<IndexMap<Text, Decl
             first: i,
             place: least_place(&names, name),
             late: is_late(&items[i]),
+            rule: is_rule(&items[i]),
         };
         names.insert(name.text.clone()?, declaration)?;
     }
