@@ -5,3 +5,5 @@ pub mod Turns
 pub mod Search
 pub mod RuleNames
 pub mod Cycles
+pub mod Tallying
+pub mod Roots

@@ -45,7 +45,7 @@ only_rule (Or mode ns) = Some (Or mode ns)
 only_rule (And r) = Some (And r)
 only_rule _ = None
 
-entry_name : (t : Table) (i : Item) → (entry t i).0 ≡ (declares i).text
+pub entry_name : (t : Table) (i : Item) → (entry t i).0 ≡ (declares i).text
 entry_name t (item.Let at n equals minus z) = refl
 entry_name t (item.Type at n equals e) = refl
 entry_name t (item.Storage s) = refl
@@ -68,7 +68,7 @@ entry_rule t (item.OrRule r) = refl
 entry_rule t (item.OpRule r) = refl
 entry_rule t (item.ModeRule r) = refl
 
-found_behind : (name : Text) (t : Table) (e : Text × Declared) → lookup (text_eq name) (t ++ e ∷ []) ≡ option_or (lookup (text_eq name) t) (if text_eq name e.0 then Some e.1 else None)
+pub found_behind : (name : Text) (t : Table) (e : Text × Declared) → lookup (text_eq name) (t ++ e ∷ []) ≡ option_or (lookup (text_eq name) t) (if text_eq name e.0 then Some e.1 else None)
 found_behind name [] e = refl
 found_behind name (x ∷ t) e = by (text_eq name x.0) (found_behind name t e)
   where

@@ -1,5 +1,5 @@
 -- Names that are looked for where an item uses them.
-use Rattle.std.specs.Prelude.{ℕ, max, nat_lt, Bool, true, false, ◌||◌, ◌&&◌, not, List, [], ◌∷◌, ◌++◌, map, Option, Some, None, codes}
+use Rattle.std.specs.Prelude.{ℕ, max, nat_lt, ◌==◌, Bool, true, false, ◌||◌, ◌&&◌, not, List, [], ◌∷◌, ◌++◌, map, Option, Some, None, codes}
 use Rattle.std.specs.List.{list_any}
 use Rattle.std.specs.Map.{lookup}
 use Rattle.nk_base.specs.Text.{text_eq}
@@ -106,3 +106,8 @@ abbrev pub item_found : List (Text × Declaration) → ℕ → (inp out : Bool) 
 item_found names k inp out i found =
     let ps = parameters i in
     noted (noted (met (is_found_in names (with_names [] ps) k) (noted found (repeated [] ps)) (uses i)) (own_places names k inp out i)) (all_shared names ps)
+
+-- declared first by the item of this number
+abbrev pub is_first : ℕ → Option Declaration → Bool
+is_first k None = false
+is_first k (Some d) = d.first == k

@@ -3,3 +3,4 @@ pub mod Naming
 pub mod Found
 pub mod Graphs
 pub mod Below
+pub mod Tallies
