@@ -1,5 +1,5 @@
 -- Rules that reach one another, by their names and by their numbers.
-use Rattle.std.proofs.Common.{◌≡◌, ℕ, zero, suc, ◌+◌, ◌<◌, ◌≤◌, Bool, true, false, List, [], ◌∷◌, map, length, slice_get, get_or, Option, Some, None, refl, ap, sym, subst, ◌∙◌, arith, if◌then◌else◌, ◌⊎◌, inl, inr, Contains, option_and_then, true≢false}
+use Rattle.std.proofs.Common.{◌≡◌, ℕ, zero, suc, ◌<◌, ◌≤◌, Bool, true, false, List, [], ◌∷◌, map, length, slice_get, Option, Some, None, refl, ap, sym, subst, ◌∙◌, arith, if◌then◌else◌, inl, inr, Contains, option_and_then}
 use Rattle.nml_tree.specs.declared.tree.TypeExpr.{TypeExpr}
 use Rattle.nml_tree.specs.declared.tree.TypeExpr.TheVariants as type_expr
 use Rattle.nml_tree.specs.declared.tree.Par.{Par}
@@ -7,18 +7,18 @@ use Rattle.nml_tree.specs.declared.tree.Item.{Item}
 use Rattle.nml_tree.specs.declared.tree.Item.TheVariants as item
 use Rattle.nml_tree.specs.declared.tree.Desc.{Desc}
 use Rattle.nml_tree.specs.Formula.{formula}
-use Rattle.nml_tree.specs.Table.{Text, Table, Rule, Declared, Or, And, declared, table, is_mode_word, rule_of, pars_of, Parameter, parameter_of, parameter_named}
+use Rattle.nml_tree.specs.Table.{Text, Table, Rule, Declared, Or, And, declared, table, rule_of, pars_of, Parameter, parameter_of, parameter_named}
 use Rattle.nml_tree.specs.Uses.{declares}
 use Rattle.nml_tree.specs.NameFault.{is_rule}
 use Rattle.nml_tree.specs.Reach as reach
 use Rattle.nml_tree.specs.Reach.{IsBelow, CycleFault}
-use Rattle.nml_tree.specs.Refused.{DeclaresAt, IsFirstRule}
+use Rattle.nml_tree.specs.Refused.{IsFirstRule}
 use Rattle.nml_types.specs.declared.names.Declaration.{Declaration}
 use Rattle.nml_types.specs.Naming.{declaration, AreDeclared}
-use Rattle.nml_types.specs.Below.{Names, number_of, rule_number, part, with_alternatives, with_parts, below, graph, looked}
+use Rattle.nml_types.specs.Below.{Names, number_of, rule_number, part, below, graph, looked}
 use Rattle.nml_types.specs.Graphs.{Graph, row, Among, Edge, Reaches, at_once, over, InRange}
-use Rattle.nml_types.proofs.Search.{from_below, starts_below}
-use Rattle.nml_types.proofs.RuleNames.{first_item, rule_part, only_rule, declared_rule, only_back, Stands, numbered, known_stands, named, first_least, some_same, in_front, alternatives_have, alternatives_from, parts_have, parts_from, IsPartOf, is_part_of}
+use Rattle.nml_types.proofs.Search.{starts_below}
+use Rattle.nml_types.proofs.RuleNames.{first_item, rule_part, only_rule, declared_rule, only_back, Stands, numbered, known_stands, named, first_least, some_same, alternatives_have, alternatives_from, parts_have, parts_from, IsPartOf, is_part_of}
 
 row_map : (h : Item → List ℕ) (items : List Item) (n : ℕ) (i : Item) → slice_get items n ≡ Some i → row (map h items) n ≡ h i
 row_map h [] n i at = absurd cc
@@ -44,14 +44,14 @@ module _ (d : Desc) where
   or_here : (a : Text) (i : Item) (mode : Bool) (ns : List Text) → first_item d.items a ≡ Some i → declared t a ≡ Some (Or mode ns) → rule_part i ≡ Some (Or mode ns)
   or_here a i mode ns at is = ap (option_and_then rule_part) (sym at) ∙ sym (declared_rule d a) ∙ ap (option_and_then only_rule) is
 
-  and_here : (a : Text) (i : Item) (r : Rule) → first_item d.items a ≡ Some i → declared t a ≡ Some (And r) → rule_part i ≡ Some (And r)
+  pub and_here : (a : Text) (i : Item) (r : Rule) → first_item d.items a ≡ Some i → declared t a ≡ Some (And r) → rule_part i ≡ Some (And r)
   and_here a i r at is = ap (option_and_then rule_part) (sym at) ∙ sym (declared_rule d a) ∙ ap (option_and_then only_rule) is
 
-  declared_here : (a : Text) (i : Item) (x : Declared) → first_item d.items a ≡ Some i → rule_part i ≡ Some x → declared t a ≡ Some x
+  pub declared_here : (a : Text) (i : Item) (x : Declared) → first_item d.items a ≡ Some i → rule_part i ≡ Some x → declared t a ≡ Some x
   declared_here a i x at is = only_back (declared t a) x (declared_rule d a ∙ ap (option_and_then rule_part) at ∙ is)
 
   -- a rule that names something has an item
-  some_item : (a : Text) (x : Declared) → option_and_then rule_part (first_item d.items a) ≡ Some x → (i : Item) × (first_item d.items a ≡ Some i) × (rule_part i ≡ Some x)
+  pub some_item : (a : Text) (x : Declared) → option_and_then rule_part (first_item d.items a) ≡ Some x → (i : Item) × (first_item d.items a ≡ Some i) × (rule_part i ≡ Some x)
   some_item a x h = by (first_item d.items a) refl h
     where
       by : (o : Option Item) → first_item d.items a ≡ o → option_and_then rule_part o ≡ Some x → (i : Item) × (first_item d.items a ≡ Some i) × (rule_part i ≡ Some x)
@@ -241,11 +241,11 @@ module _ (d : Desc) where
     place = n;
     stands = (i, at, sym is);
     first = λ k other there h.
-      let c = cycle_forth other h in
-      let l = least c.0 c.2 in
-      let q = c.1.stands.number in
-      let low = first_least d.items 0 k other c.1.stands.known there.0 c.1.stands.is there.1 there.2 in
-      omega (arith, l, q, low);
+        let c = cycle_forth other h in
+        let l = least c.0 c.2 in
+        let q = c.1.stands.number in
+        let low = first_least d.items 0 k other c.1.stands.known there.0 c.1.stands.is there.1 there.2 in
+        omega (arith, l, q, low);
   }
 
   -- the numbers are those of items

@@ -58,7 +58,7 @@ lt_false a b h = by (nat_lt a b) refl
     by false e = e
 
 -- whether the set has a name: one of it, or the one that was put into it
-keyed : (keys : List Text) (p q : Text) → list_any (text_eq q) (insert_key text_eq keys p) ≡ (list_any (text_eq q) keys || text_eq q p)
+pub keyed : (keys : List Text) (p q : Text) → list_any (text_eq q) (insert_key text_eq keys p) ≡ (list_any (text_eq q) keys || text_eq q p)
 keyed keys p q = by (list_any (text_eq p) keys) (text_eq q p) refl refl
   where
     by : (x y : Bool) → list_any (text_eq p) keys ≡ x → text_eq q p ≡ y → list_any (text_eq q) (if list_any (text_eq p) keys then keys else keys ++ p ∷ []) ≡ (list_any (text_eq q) keys || text_eq q p)

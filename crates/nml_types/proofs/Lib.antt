@@ -7,3 +7,4 @@ pub mod RuleNames
 pub mod Cycles
 pub mod Tallying
 pub mod Roots
+pub mod Linears

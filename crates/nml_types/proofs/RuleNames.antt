@@ -1,5 +1,5 @@
 -- The rules that names declare, and the numbers of what a rule names.
-use Rattle.std.proofs.Common.{◌≡◌, ℕ, zero, suc, ◌+◌, ◌<◌, ◌≤◌, Bool, true, false, List, [], ◌∷◌, ◌++◌, map, length, slice_get, slice_index_or, get_or, Option, Some, None, refl, ap, sym, subst, ◌∙◌, arith, if◌then◌else◌, cond, ◌⊎◌, inl, inr, Contains, option_and_then, option_map}
+use Rattle.std.proofs.Common.{◌≡◌, ℕ, zero, suc, ◌+◌, ◌≤◌, Bool, true, false, List, [], ◌∷◌, ◌++◌, map, slice_get, Option, Some, None, refl, ap, sym, subst, ◌∙◌, arith, if◌then◌else◌, cond, ◌⊎◌, inl, inr, Contains, option_and_then, option_map}
 use Rattle.std.specs.Map.{lookup}
 use Rattle.std.specs.Option.{option_or}
 use Rattle.nk_base.specs.Text.{text_eq}
@@ -14,19 +14,15 @@ use Rattle.nml_tree.specs.declared.tree.Item.{Item}
 use Rattle.nml_tree.specs.declared.tree.Item.TheVariants as item
 use Rattle.nml_tree.specs.declared.tree.Desc.{Desc}
 use Rattle.nml_tree.specs.Formula.{formula}
-use Rattle.nml_tree.specs.Table.{Text, Table, Rule, Declared, Constant, TypeName, Storage, Trn, Inp, Out, Or, And, declared, table, entry, entries, port_of, type_or_none, type_of, is_mode_word, rule_of, pars_of, Parameter, parameter_of, parameter_named}
+use Rattle.nml_tree.specs.Table.{Text, Table, Declared, Constant, TypeName, Storage, Trn, Inp, Out, Or, And, declared, table, entry, entries, port_of, type_or_none, type_of, is_mode_word, rule_of, Parameter, parameter_of, parameter_named}
 use Rattle.nml_tree.specs.Uses.{declares}
 use Rattle.nml_tree.specs.NameFault.{is_rule}
-use Rattle.nml_tree.specs.Reach as reach
-use Rattle.nml_tree.specs.Reach.{IsBelow, CycleFault}
-use Rattle.nml_tree.specs.Refused.{DeclaresAt, IsFirstRule}
 use Rattle.nml_tree.proofs.SameText.{same_text, equal_text}
 use Rattle.nml_types.specs.declared.names.Declaration.{Declaration}
 use Rattle.nml_types.specs.Naming.{declaration, least_place, is_late}
-use Rattle.nml_types.specs.Below.{Names, number_of, rule_number, part, with_alternatives, with_parts, below, graph}
-use Rattle.nml_types.specs.Graphs as graphs
-use Rattle.nml_types.specs.Graphs.{Graph, row, Among, Edge, Reaches, at_once, over, InRange}
-use Rattle.nml_types.proofs.Search.{among_front, from_below}
+use Rattle.nml_types.specs.Below.{Names, number_of, part, with_alternatives, with_parts}
+use Rattle.nml_types.specs.Graphs.{Among}
+use Rattle.nml_types.proofs.Search.{among_front}
 
 -- the first item that declares the name
 abbrev pub first_item : List Item → Text → Option Item
@@ -125,24 +121,30 @@ numbered [] j a i h = absurd cc
 numbered (x ∷ items) j a i h = by (text_eq a (declares x).text) refl h (numbered items (j + 1) a i)
   where
     by : (b : Bool) → text_eq a (declares x).text ≡ b → (if b then Some x else first_item items a) ≡ Some i → (first_item items a ≡ Some i → (n : ℕ) × Stands items (j + 1) a n) → (n : ℕ) × Stands (x ∷ items) j a n
-    by true e h rest = (0, record {
-      what = x;
-      first = rw e refl;
-      at = refl;
-      known = record { first = j; place = least_place (declares x).at (declaration (j + 1) items a); late = is_late x; rule = is_rule x };
-      is = rw e refl;
-      number = omega arith;
-      rule = refl;
-    })
-    by false e h rest = let r = rest h in let l = r.1.number in (suc r.0, record {
-      what = r.1.what;
-      first = rw e r.1.first;
-      at = r.1.at;
-      known = r.1.known;
-      is = rw e r.1.is;
-      number = omega (arith, l);
-      rule = r.1.rule;
-    })
+    by true e h rest = (
+      0,
+      record {
+        what = x;
+        first = rw e refl;
+        at = refl;
+        known = record { first = j; place = least_place (declares x).at (declaration (j + 1) items a); late = is_late x; rule = is_rule x };
+        is = rw e refl;
+        number = omega arith;
+        rule = refl;
+      },
+    )
+    by false e h rest = let r = rest h in let l = r.1.number in (
+      suc r.0,
+      record {
+        what = r.1.what;
+        first = rw e r.1.first;
+        at = r.1.at;
+        known = r.1.known;
+        is = rw e r.1.is;
+        number = omega (arith, l);
+        rule = r.1.rule;
+      },
+    )
 
 -- a name that is known has an item
 has_item : (items : List Item) (j : ℕ) (a : Text) (d : Declaration) → declaration j items a ≡ Some d → (i : Item) × (first_item items a ≡ Some i)

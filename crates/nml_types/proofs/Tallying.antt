@@ -1,5 +1,5 @@
 -- Names that are counted up to two.
-use Rattle.std.proofs.Common.{◌≡◌, ℕ, List, [], ◌∷◌, ◌++◌, refl, Bool, true}
+use Rattle.std.proofs.Common.{◌≡◌, List, [], ◌∷◌, ◌++◌, refl, Bool, true}
 use Rattle.nml_tree.specs.declared.names.Name.{Name}
 use Rattle.nml_tree.specs.declared.attributes.Attrs.{Attrs}
 use Rattle.nml_tree.specs.Block.{action_block}

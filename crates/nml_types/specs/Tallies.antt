@@ -1,5 +1,5 @@
 -- Which names stand once in a list, and which more often.
-use Rattle.std.specs.Prelude.{Bool, not, ◌&&◌, List, [], ◌∷◌, ◌++◌, map, Option, Some, None, if◌then◌else◌}
+use Rattle.std.specs.Prelude.{ℕ, Bool, not, ◌&&◌, List, [], ◌∷◌, ◌++◌, map, Option, Some, None, if◌then◌else◌}
 use Rattle.std.specs.List.{list_any}
 use Rattle.indexmap.specs.IndexSet.{insert_key}
 use Rattle.nk_base.specs.Text.{text_eq}
@@ -10,7 +10,10 @@ use Rattle.nml_tree.specs.declared.tree.Item.{Item}
 use Rattle.nml_tree.specs.declared.tree.Item.TheVariants as item
 use Rattle.nml_tree.specs.Block.{Block, Done, Assign, Part, Halt, If, IfElse, action_block}
 use Rattle.nml_tree.specs.Table.{Text, pars_of}
-use Rattle.nml_tree.specs.Uses.{in_text}
+use Rattle.nml_tree.specs.Uses.{in_text, declares}
+use Rattle.std.specs.Map.{lookup}
+use Rattle.nml_types.specs.declared.names.Declaration.{Declaration}
+use Rattle.nml_types.specs.Found.{is_first}
 use Rattle.nml_types.specs.declared.tally.Tally.{Tally}
 use Rattle.nml_types.specs.declared.linear.Named.{Named}
 
@@ -70,3 +73,7 @@ other_parameter _ = None
 
 abbrev pub named_linear : Named → Text → Bool
 named_linear n p = are_linear (seen n.syntax) (seen n.image) (seen n.action) p
+
+-- and of an item that is the first of its name
+abbrev pub fault_at : List (Text × Declaration) → ℕ → Item → Option Text
+fault_at names k i = if is_first k (lookup (text_eq (declares i).text) names) then other_parameter i else None

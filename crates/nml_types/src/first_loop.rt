@@ -6,8 +6,8 @@ ghost use Rattle.nml_types.specs.Graphs.{Reaches, InRange, LeastOf};
 use crate::guess::guess;
 use crate::order::is_order;
 use crate::reach::reaches_itself;
-use sqlite_items::Items;
 use nk_base::Memory;
+use sqlite_items::Items;
 use std::alloc::Global;
 
 pub fn first_loop(alloc: Global, graph: &[Items<usize>]) -> Result<Option<usize>, Memory>

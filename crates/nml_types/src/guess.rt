@@ -1,8 +1,8 @@
 //! An order of the rules, each behind those that it names, where there is one. It is only a guess:
 //! `order` checks it.
 
-use sqlite_items::Items;
 use nk_base::Memory;
+use sqlite_items::Items;
 use std::alloc::Global;
 
 /// A walk downwards from each rule; a rule is put into the order when all that it names was walked.

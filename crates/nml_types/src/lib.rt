@@ -20,5 +20,6 @@ mod used;
 mod used_stmt;
 
 pub use cycle::first_cycle;
+pub use linear::first_unlinear;
 pub use name_fault::first_name_fault;
 pub use root::first_lack;

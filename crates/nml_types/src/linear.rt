@@ -107,3 +107,40 @@ fn is_first(names: &IndexMap<Text, Declaration>, number: usize, name: &Text) -> 
         Some(found) => found.first == number,
     }
 }
+
+/// The first parameter of the item that isn't named as often as it must be, where the item is the first that declares its name.
+fn fault_at(
+    alloc: Global,
+    names: &IndexMap<Text, Declaration>,
+    number: usize,
+    item: &Item,
+) -> Result<Option<Text>, Memory>
+    ensures { IfOk result (λ o. o ≡ spec.fault_at names.now.entries number item.now) }
+{
+    if is_first(names, number, &declared_name(item).text) {
+        return first_in_item(alloc, item);
+    }
+    Ok(None)
+}
+
+/// The first parameter, of the first rule, that isn't named as often as it must be: the rule's name and the parameter's.
+///
+/// Each parameter stands exactly once in the rule's syntax and exactly once in its image, and its action is taken at most once. The
+/// rule is this project's own. The one error is want of memory.
+pub fn first_unlinear(alloc: Global, d: &Desc) -> Result<Option<(Text, Text)>, Memory>
+    ensures { IfOk result (λ found. MatchOption found ((rule p : List ℕ) → LinearFault (table d.now) rule p → ⊥)
+        (λ x. IsFirstRule d.now (HasLinearFault (table d.now)) x.0 × IsFirstParameter (table d.now) x.0 x.1)) }
+{
+    let items = d.items.as_slice();
+    let names = declarations(alloc, items)?;
+    for number in 0..items.len() {
+        let item = &items[number];
+        match fault_at(alloc, &names, number, item)? {
+            None => (),
+            Some(parameter) => {
+                return Ok(Some((declared_name(item).text.clone()?, parameter)));
+            }
+        }
+    }
+    Ok(None)
+}

@@ -3,8 +3,8 @@
 ghost use Rattle.std.specs.Prelude.{◌≡◌, ◌<◌, ℕ, IfOk, IsTrue, length};
 ghost use Rattle.nml_types.specs.Graphs.{IsOrder, Marked, Among};
 
-use sqlite_items::Items;
 use nk_base::Memory;
+use sqlite_items::Items;
 use std::alloc::Global;
 
 /// A yes only where each rule stands in it, behind those that it names.

@@ -3,8 +3,8 @@
 ghost use Rattle.std.specs.Prelude.{◌↔◌, ℕ, IfOk, OnOk, IsTrue, ◌<◌, ◌≡◌, ◌++◌, List, length, slice_index_or, false};
 ghost use Rattle.nml_types.specs.Graphs.{Edge, Reaches, InRange, IsSearch, Visited};
 
-use sqlite_items::Items;
 use nk_base::Memory;
+use sqlite_items::Items;
 use std::alloc::Global;
 
 pub fn reaches_itself(alloc: Global, graph: &[Items<usize>], rule: usize) -> Result<bool, Memory>

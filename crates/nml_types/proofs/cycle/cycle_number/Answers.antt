@@ -1,4 +1,4 @@
-use Rattle.std.proofs.Common.{◌≡◌, ◌∙◌, sym, subst, IfOk}
+use Rattle.std.proofs.Common.{◌∙◌, sym, subst, IfOk}
 use Rattle.nml_types.specs.Graphs.{InRange, LeastOf, Reaches}
 use Rattle.nml_types.proofs.Cycles.{in_range, rows_are}
 use Rattle.nml_types.proofs.cycle.cycle_number.Goals as goal

@@ -1,4 +1,4 @@
-use Rattle.std.proofs.Common.{◌≡◌, ◌∙◌, true, false, sym, map, codes, rules}
+use Rattle.std.proofs.Common.{◌≡◌, true, false, map, codes, rules}
 use Rattle.nml_tree.specs.NameFault.{is_among}
 use Rattle.nml_tree.specs.Uses.{declares}
 use Rattle.nml_types.proofs.Roots.{lacking, having, neither}
