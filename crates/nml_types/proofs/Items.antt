@@ -21,7 +21,7 @@ use Rattle.nml_tree.specs.NameFault.{is_among, is_known, may_stand_behind, are_s
 use Rattle.nml_tree.proofs.SameText.{same_text}
 use Rattle.nml_types.specs.declared.names.Declaration.{Declaration}
 use Rattle.nml_types.specs.Note.{noted}
-use Rattle.nml_types.specs.Naming.{declaration, least_place, is_late}
+use Rattle.nml_types.specs.Naming.{constant_of, declaration, least_place, is_late}
 use Rattle.nml_types.specs.Found.{is_before, is_declared, is_found_in, met, repeated, with_names, names_of, shared, all_shared, is_inp, is_out, is_inp_word, is_out_word, is_second, own_places, item_found}
 use Rattle.nml_types.proofs.Notes.{noted_append, noted_is, noted_swap, met_is}
 
@@ -85,7 +85,7 @@ least_shared j [] p = refl
 least_shared j (i ∷ all) p = by (text_eq p.text (declares i).text) (declaration (j + 1) all p.text) (least_shared (j + 1) all p)
   where
     by : (b : Bool) (d : Option Declaration) → least_of (shared p.at d) ≡ least_of (shared_places all p)
-        → least_of (shared p.at (if b then Some (record { first = j; place = least_place (declares i).at d; late = is_late i; rule = is_rule i }) else d)) ≡ least_of (when b (max p.at (declares i).at) ++ shared_places all p)
+        → least_of (shared p.at (if b then Some (record { first = j; place = least_place (declares i).at d; late = is_late i; rule = is_rule i; constant = constant_of i }) else d)) ≡ least_of (when b (max p.at (declares i).at) ++ shared_places all p)
     by true None h = rw (← h) refl
     by true (Some d) h = rw (← h) (ap Some (omega arith))
     by false d h = h
@@ -206,7 +206,7 @@ none_before : (j m : ℕ) (items : List Item) (name : Text) → m ≤ j → is_b
 none_before j m [] name low = refl
 none_before j m (i ∷ items) name low = by (text_eq name (declares i).text) (declaration (j + 1) items name) (none_before (j + 1) m items name (omega (arith, low)))
   where
-    by : (b : Bool) (d : Option Declaration) → is_before m d ≡ false → is_before m (if b then Some (record { first = j; place = least_place (declares i).at d; late = is_late i; rule = is_rule i }) else d) ≡ false
+    by : (b : Bool) (d : Option Declaration) → is_before m d ≡ false → is_before m (if b then Some (record { first = j; place = least_place (declares i).at d; late = is_late i; rule = is_rule i; constant = constant_of i }) else d) ≡ false
     by true d h = lt_false j m low
     by false d h = h
 
@@ -216,7 +216,7 @@ before_from j (suc k) m [] name is = refl
 before_from j (suc k) m (i ∷ items) name is = by (text_eq name (declares i).text) (declaration (j + 1) items name) (before_from (j + 1) k m items name (omega (arith, is)))
   where
     by : (b : Bool) (d : Option Declaration) → is_before m d ≡ is_among name (map declares (take k items))
-        → is_before m (if b then Some (record { first = j; place = least_place (declares i).at d; late = is_late i; rule = is_rule i }) else d) ≡ (b || is_among name (map declares (take k items)))
+        → is_before m (if b then Some (record { first = j; place = least_place (declares i).at d; late = is_late i; rule = is_rule i; constant = constant_of i }) else d) ≡ (b || is_among name (map declares (take k items)))
     by true d h = lt_true j m (omega (arith, is))
     by false d h = h
 
@@ -279,7 +279,7 @@ late_is t j (i ∷ items) name =
     ∙ by (lookup (text_eq name) t) (text_eq name (declares i).text) (declaration (j + 1) items name)
   where
     by : (x : Option Declared) (b : Bool) (d : Option Declaration)
-        → later (option_or x (if b then Some (entry t i).1 else None)) d ≡ later x (if b then Some (record { first = j; place = least_place (declares i).at d; late = is_late i; rule = is_rule i }) else d)
+        → later (option_or x (if b then Some (entry t i).1 else None)) d ≡ later x (if b then Some (record { first = j; place = least_place (declares i).at d; late = is_late i; rule = is_rule i; constant = constant_of i }) else d)
     by (Some x) b d = refl
     by None true d = entry_late t i
     by None false d = refl

@@ -8,3 +8,4 @@ pub mod Cycles
 pub mod Tallying
 pub mod Roots
 pub mod Linears
+pub mod Sizes

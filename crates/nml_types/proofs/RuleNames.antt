@@ -19,7 +19,7 @@ use Rattle.nml_tree.specs.Uses.{declares}
 use Rattle.nml_tree.specs.NameFault.{is_rule}
 use Rattle.nml_tree.proofs.SameText.{same_text, equal_text}
 use Rattle.nml_types.specs.declared.names.Declaration.{Declaration}
-use Rattle.nml_types.specs.Naming.{declaration, least_place, is_late}
+use Rattle.nml_types.specs.Naming.{constant_of, declaration, least_place, is_late}
 use Rattle.nml_types.specs.Below.{Names, number_of, part, with_alternatives, with_parts}
 use Rattle.nml_types.specs.Graphs.{Among}
 use Rattle.nml_types.proofs.Search.{among_front}
@@ -127,7 +127,7 @@ numbered (x ∷ items) j a i h = by (text_eq a (declares x).text) refl h (number
         what = x;
         first = rw e refl;
         at = refl;
-        known = record { first = j; place = least_place (declares x).at (declaration (j + 1) items a); late = is_late x; rule = is_rule x };
+        known = record { first = j; place = least_place (declares x).at (declaration (j + 1) items a); late = is_late x; rule = is_rule x; constant = constant_of x };
         is = rw e refl;
         number = omega arith;
         rule = refl;
@@ -151,7 +151,7 @@ has_item : (items : List Item) (j : ℕ) (a : Text) (d : Declaration) → declar
 has_item [] j a d h = absurd cc
 has_item (x ∷ items) j a d h = by (text_eq a (declares x).text) refl h (has_item items (j + 1) a d)
   where
-    by : (b : Bool) → text_eq a (declares x).text ≡ b → (if b then Some (record { first = j; place = least_place (declares x).at (declaration (j + 1) items a); late = is_late x; rule = is_rule x }) else declaration (j + 1) items a) ≡ Some d
+    by : (b : Bool) → text_eq a (declares x).text ≡ b → (if b then Some (record { first = j; place = least_place (declares x).at (declaration (j + 1) items a); late = is_late x; rule = is_rule x; constant = constant_of x }) else declaration (j + 1) items a) ≡ Some d
         → (declaration (j + 1) items a ≡ Some d → (i : Item) × (first_item items a ≡ Some i)) → (i : Item) × (first_item (x ∷ items) a ≡ Some i)
     by true e h rest = (x, rw e refl)
     by false e h rest = let r = rest h in (r.0, rw e r.1)
@@ -181,12 +181,12 @@ first_least [] j k a d i h at is = absurd cc
 first_least (x ∷ items) j zero a d i h at is =
     let s : x ≡ i = some_same _ _ at in
     let t : text_eq a (declares x).text ≡ true = equal_text a (declares x).text (sym (ap (λ z. (declares z).text) s ∙ is)) in
-    let e = some_same _ _ (ap (λ b. if b then Some (record { first = j; place = least_place (declares x).at (declaration (j + 1) items a); late = is_late x; rule = is_rule x }) else declaration (j + 1) items a) (sym t) ∙ h) in
+    let e = some_same _ _ (ap (λ b. if b then Some (record { first = j; place = least_place (declares x).at (declaration (j + 1) items a); late = is_late x; rule = is_rule x; constant = constant_of x }) else declaration (j + 1) items a) (sym t) ∙ h) in
     let f : j ≡ d.first = ap (λ (z : Declaration). z.first) e in
     omega (arith, f)
 first_least (x ∷ items) j (suc k) a d i h at is = by (text_eq a (declares x).text) h (λ r. first_least items (j + 1) k a d i r at is)
   where
-    by : (b : Bool) → (if b then Some (record { first = j; place = least_place (declares x).at (declaration (j + 1) items a); late = is_late x; rule = is_rule x }) else declaration (j + 1) items a) ≡ Some d
+    by : (b : Bool) → (if b then Some (record { first = j; place = least_place (declares x).at (declaration (j + 1) items a); late = is_late x; rule = is_rule x; constant = constant_of x }) else declaration (j + 1) items a) ≡ Some d
         → (declaration (j + 1) items a ≡ Some d → d.first ≤ (j + 1) + k) → d.first ≤ j + suc k
     by true h rest = let f : j ≡ d.first = ap (λ (z : Declaration). z.first) (some_same _ _ h) in omega (arith, f)
     by false h rest = let l = rest h in omega (arith, l)

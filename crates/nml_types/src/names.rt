@@ -1,7 +1,8 @@
 //! The names that a description declares, and where.
-ghost use Rattle.std.specs.Prelude.{◌≡◌, IfOk};
+ghost use Rattle.std.specs.Prelude.{◌≡◌, pos, IfOk};
 ghost use Rattle.std.specs.Map.{lookup};
 ghost use Rattle.nk_base.specs.Text.{text_eq};
+ghost use Rattle.nml_tree.specs.Table as table;
 ghost use Rattle.nml_tree.specs.Uses.{declares};
 ghost use Rattle.nml_types.specs.Naming as spec;
 ghost use Rattle.nml_types.specs.Naming.{AreDeclared};
@@ -9,7 +10,7 @@ ghost use Rattle.nml_types.specs.Naming.{AreDeclared};
 use crate::item::is_rule;
 use indexmap::IndexMap;
 use nk_base::{Memory, Text};
-use nml_tree::{Item, Name};
+use nml_tree::{Item, Name, Size};
 use std::alloc::Global;
 
 /// Where a name is declared.
@@ -23,6 +24,8 @@ pub struct Declaration {
     pub late: bool,
     /// Whether the first is a rule.
     pub rule: bool,
+    /// The number of the first, where that is a `let`.
+    pub constant: Option<i128>,
 }
 
 /// The name that the item declares.
@@ -55,6 +58,41 @@ fn is_late(item: &Item) -> bool
     }
 }
 
+/// The number with its sign.
+fn signed(minus: Option<u32>, value: u64) -> i128
+    ensures { result ≡ table.signed minus (pos value) }
+{
+    match minus {
+        None => i128::from(value),
+        Some(_) => -i128::from(value),
+    }
+}
+
+/// The number of the item, where that is a `let`.
+fn constant(item: &Item) -> Option<i128>
+    ensures { result ≡ spec.constant_of item.now }
+{
+    match item {
+        Item::Let(_, _, _, minus, number) => Some(signed(*minus, number.value)),
+        Item::Type(_, _, _, _) => None,
+        Item::Storage(_) => None,
+        Item::Port(_) => None,
+        Item::OrRule(_) => None,
+        Item::OpRule(_) => None,
+        Item::ModeRule(_) => None,
+    }
+}
+
+/// The number that the size writes, or that its name has.
+pub fn size_number(names: &IndexMap<Text, Declaration>, size: &Size) -> Option<i128>
+    ensures { result ≡ spec.number_in names.now.entries size.now }
+{
+    match size {
+        Size::Number(number) => Some(i128::from(number.value)),
+        Size::Name(name) => names.get(&name.text)?.constant,
+    }
+}
+
 /// The lesser of the name's place and that of its declaration among these.
 fn least_place(names: &IndexMap<Text, Declaration>, name: &Name) -> u32
     ensures { result ≡ spec.least_place name.now.at (lookup (text_eq name.now.text) names.now.entries) }
@@ -81,6 +119,7 @@ pub fn declarations(alloc: Global, items: &[Item]) -> Result<IndexMap<Text, Decl
             place: least_place(&names, name),
             late: is_late(&items[i]),
             rule: is_rule(&items[i]),
+            constant: constant(&items[i]),
         };
         names.insert(name.text.clone()?, declaration)?;
     }
