@@ -29,6 +29,7 @@ abbrev pub is_declared : ℕ → Option Declaration → Bool
 is_declared k None = false
 is_declared k (Some d) = nat_lt d.first k || d.late
 
+-- a parameter, or a name that is declared
 abbrev pub is_found_in : List (Text × Declaration) → List Text → ℕ → Text → Bool
 is_found_in names pars k name = list_any (text_eq name) pars || is_declared k (lookup (text_eq name) names)
 
@@ -41,10 +42,11 @@ abbrev pub met : (Text → Bool) → Option ℕ → List Name → Option ℕ
 met known found [] = found
 met known found (n ∷ names) = met known (noted found (unless (known n.text) n.at)) names
 
--- the parameters that repeat one before them, or are called `PC` or `instruction`, these being before them
+-- a parameter that repeats one of these, or is called `PC` or `instruction`
 abbrev pub is_repeated : List Text → Name → Bool
 is_repeated keys p = list_any (text_eq p.text) keys || text_eq p.text (codes "PC") || text_eq p.text (codes "instruction")
 
+-- the places of parameters that can't be called so, these being before them
 abbrev pub repeated : List Text → List Name → List ℕ
 repeated keys [] = []
 repeated keys (p ∷ ps) = when (is_repeated keys p) p.at ++ repeated (insert_key text_eq keys p.text) ps
@@ -72,18 +74,22 @@ abbrev pub all_shared : List (Text × Declaration) → List Name → List ℕ
 all_shared names [] = []
 all_shared names (p ∷ ps) = shared p.at (lookup (text_eq p.text) names) ++ all_shared names ps
 
+-- `inp`
 abbrev pub is_inp_word : PortWord → Bool
 is_inp_word (port.Inp at) = true
 is_inp_word _ = false
 
+-- `out`
 abbrev pub is_out_word : PortWord → Bool
 is_out_word (port.Out at) = true
 is_out_word _ = false
 
+-- an item that is the input
 abbrev pub is_inp : Item → Bool
 is_inp (item.Port p) = is_inp_word p.word
 is_inp _ = false
 
+-- an item that is the output
 abbrev pub is_out : Item → Bool
 is_out (item.Port p) = is_out_word p.word
 is_out _ = false
