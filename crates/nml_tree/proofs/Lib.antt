@@ -11,9 +11,8 @@ pub mod LeastPlace
 pub mod SampleTables
 pub mod SampleRuns
 pub mod SampleRefused
-pub mod SampleShapes
 pub mod OneDerivation
-pub mod OneWord
-pub mod OneRun
 pub mod Height
-pub mod ShapeListed
+pub mod ByNames
+pub mod RuleWorth
+pub mod ImageWidths

@@ -18,6 +18,7 @@ pub mod Table
 pub mod Derivation
 pub mod Template
 pub mod Image
+pub mod ImageWidth
 pub mod Syntax
 pub mod Act
 pub mod Written

@@ -1,0 +1,4 @@
+pub mod OneWord
+pub mod OneRun
+pub mod ShapeListed
+pub mod SampleShapes
