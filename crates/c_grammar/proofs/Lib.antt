@@ -1,0 +1,9 @@
+pub mod Symbols
+pub mod Flat
+pub mod Keeps
+pub mod Local
+pub mod Sound
+pub mod Complete
+pub mod Viable
+pub mod Settled
+pub mod LawfulExpressions

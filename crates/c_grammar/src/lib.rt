@@ -1,0 +1,8 @@
+//! The grammar of programs: how symbols are read, and that they spell one expression or none.
+//!
+//! These are definitions and laws alone.
+#![tactic(auto)]
+
+mod law;
+
+pub use law::{one_expression, read_expression};
