@@ -12,7 +12,7 @@ use Rattle.nml_tree.specs.declared.attributes.Arg.{Arg}
 use Rattle.nml_tree.specs.declared.tree.Par.{Par}
 use Rattle.nml_tree.specs.declared.tree.TypeExpr.{TypeExpr}
 use Rattle.nml_tree.specs.declared.tree.TypeExpr.TheVariants as type_expr
-use Rattle.nml_tree.specs.Attribute.{Piece, Letter, Directive, bits_of, pieces}
+use Rattle.nml_tree.specs.Attribute.{FormatPiece, Letter, Directive, bits_of, pieces}
 use Rattle.nml_tree.specs.Table.{Text, Table, Rule, Declared, Parameter, declared, parameter_of, parameter_named, type_of, type_or_none, type_named}
 use Rattle.nml_tree.specs.Derivation.{Derivation, Arguments, Compose, NoMore, Part, Field, Fill}
 use Rattle.nml_tree.specs.Image.{image, images, bit}
@@ -161,20 +161,20 @@ to_all name pars k h low i p less at = h i p (omega (arith, low, less)) at
 pub whole_image : (t : Table) (rule : Rule) (n : ℕ) (d : Derivation) (ps : List ℕ) (zs : List ℤ) (ks : List ℕ) (ys : List ℤ) (out new : Run) → (a : (args : Arguments) × (d ≡ Compose rule args) × WalksAll t rule.pars n args ps zs ks ys) → new ≡ pushed out (image (Compose rule a.0)) → new ≡ pushed out (image d)
 whole_image t rule n d ps zs ks ys out new a is = is ∙ ap (λ x. pushed out (image x)) (sym a.1)
 
-pub next_text : (out new : Run) (args : Arguments) (text behind : List ℕ) (list left : List (ℕ × Arg)) (q : Piece) → pieces text ≡ q ∷ pieces behind → pushed new (put_in bit (pieces behind) (bits_given args left)) ≡ pushed out (put_in bit (q ∷ pieces behind) (bits_given args list)) → pushed new (put_in bit (pieces behind) (bits_given args left)) ≡ pushed out (put_in bit (pieces text) (bits_given args list))
+pub next_text : (out new : Run) (args : Arguments) (text behind : List ℕ) (list left : List (ℕ × Arg)) (q : FormatPiece) → pieces text ≡ q ∷ pieces behind → pushed new (put_in bit (pieces behind) (bits_given args left)) ≡ pushed out (put_in bit (q ∷ pieces behind) (bits_given args list)) → pushed new (put_in bit (pieces behind) (bits_given args left)) ≡ pushed out (put_in bit (pieces text) (bits_given args list))
 next_text out new args text behind list left q is h = h ∙ ap (λ ps. pushed out (put_in bit ps (bits_given args list))) (sym is)
 
 pub end_text : (out : Run) (args : Arguments) (text : List ℕ) (list : List (ℕ × Arg)) → text ≡ [] → pushed out (put_in bit (pieces text) (bits_given args list)) ≡ out
 end_text out args text list is = rw is refl
 
-pub letter_piece : (out new : Run) (args : Arguments) (list : List (ℕ × Arg)) (c : ℕ) (q : Piece) (more : List Piece) → q ≡ Letter c → new ≡ pushed_one out (bit c) → pushed new (put_in bit more (bits_given args list)) ≡ pushed out (put_in bit (q ∷ more) (bits_given args list))
+pub letter_piece : (out new : Run) (args : Arguments) (list : List (ℕ × Arg)) (c : ℕ) (q : FormatPiece) (more : List FormatPiece) → q ≡ Letter c → new ≡ pushed_one out (bit c) → pushed new (put_in bit more (bits_given args list)) ≡ pushed out (put_in bit (q ∷ more) (bits_given args list))
 letter_piece out new args list c q more is h = rw (is, h) refl
 
-pub no_argument : (out : Run) (args : Arguments) (list : List (ℕ × Arg)) (q : Piece) (more : List Piece) → (digits : List ℕ) × (letter : ℕ) × (q ≡ Directive digits letter) → length list ≡ 0 → pushed out (put_in bit more (bits_given args list)) ≡ pushed out (put_in bit (q ∷ more) (bits_given args list))
+pub no_argument : (out : Run) (args : Arguments) (list : List (ℕ × Arg)) (q : FormatPiece) (more : List FormatPiece) → (digits : List ℕ) × (letter : ℕ) × (q ≡ Directive digits letter) → length list ≡ 0 → pushed out (put_in bit more (bits_given args list)) ≡ pushed out (put_in bit (q ∷ more) (bits_given args list))
 no_argument out args [] q more h none = rw h.2 refl
 no_argument out args (a ∷ list) q more h none = absurd (omega (arith, none))
 
-pub next_argument : (out new : Run) (args : Arguments) (list left : List (ℕ × Arg)) (a : ℕ × Arg) (q : Piece) (more : List Piece) → (digits : List ℕ) × (letter : ℕ) × (q ≡ Directive digits letter) → list ≡ a ∷ left → new ≡ pushed out (given (images args) a.1.name.text) → pushed new (put_in bit more (bits_given args left)) ≡ pushed out (put_in bit (q ∷ more) (bits_given args list))
+pub next_argument : (out new : Run) (args : Arguments) (list left : List (ℕ × Arg)) (a : ℕ × Arg) (q : FormatPiece) (more : List FormatPiece) → (digits : List ℕ) × (letter : ℕ) × (q ≡ Directive digits letter) → list ≡ a ∷ left → new ≡ pushed out (given (images args) a.1.name.text) → pushed new (put_in bit more (bits_given args left)) ≡ pushed out (put_in bit (q ∷ more) (bits_given args list))
 next_argument out new args list left a q more h is e =
     rw (h.2, is, pushed_append out (given (images args) a.1.name.text) (put_in bit more (bits_given args left)), e) refl
 

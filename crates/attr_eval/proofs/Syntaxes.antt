@@ -7,7 +7,7 @@ use Rattle.nk_base.specs.Text.{text_eq}
 use Rattle.nk_base.specs.declared.number.Ty.{Ty}
 use Rattle.nml_tree.specs.declared.attributes.Arg.{Arg}
 use Rattle.nml_tree.specs.declared.tree.Par.{Par}
-use Rattle.nml_tree.specs.Attribute.{Piece, Letter, Directive, pieces}
+use Rattle.nml_tree.specs.Attribute.{FormatPiece, Letter, Directive, pieces}
 use Rattle.nml_tree.specs.Table.{Text, Table, Rule}
 use Rattle.nml_tree.specs.Derivation.{Derivation, Arguments, Compose, NoMore, Part, Field, Fill}
 use Rattle.nml_tree.specs.Syntax.{syntax_of, syntaxes}
@@ -97,20 +97,20 @@ pub map_same : (xs : List ℕ) → map (λ c. c) xs ≡ xs
 map_same [] = refl
 map_same (x ∷ xs) = ap (λ ys. x ∷ ys) (map_same xs)
 
-pub next_text : (out new : List ℕ) (args : Arguments) (text behind : List ℕ) (list left : List (ℕ × Arg)) (q : Piece) → pieces text ≡ q ∷ pieces behind → new ++ put_in (λ c. c) (pieces behind) (text_given args left) ≡ out ++ put_in (λ c. c) (q ∷ pieces behind) (text_given args list) → new ++ put_in (λ c. c) (pieces behind) (text_given args left) ≡ out ++ put_in (λ c. c) (pieces text) (text_given args list)
+pub next_text : (out new : List ℕ) (args : Arguments) (text behind : List ℕ) (list left : List (ℕ × Arg)) (q : FormatPiece) → pieces text ≡ q ∷ pieces behind → new ++ put_in (λ c. c) (pieces behind) (text_given args left) ≡ out ++ put_in (λ c. c) (q ∷ pieces behind) (text_given args list) → new ++ put_in (λ c. c) (pieces behind) (text_given args left) ≡ out ++ put_in (λ c. c) (pieces text) (text_given args list)
 next_text out new args text behind list left q is h = h ∙ ap (λ ps. out ++ put_in (λ c. c) ps (text_given args list)) (sym is)
 
 pub end_text : (out : List ℕ) (args : Arguments) (text : List ℕ) (list : List (ℕ × Arg)) → text ≡ [] → out ++ put_in (λ c. c) (pieces text) (text_given args list) ≡ out
 end_text out args text list is = ap (λ ps. out ++ put_in (λ c. c) (pieces ps) (text_given args list)) is ∙ append-nil out
 
-pub letter_piece : (out new : List ℕ) (args : Arguments) (list : List (ℕ × Arg)) (c : ℕ) (q : Piece) (more : List Piece) → q ≡ Letter c → new ≡ out ++ c ∷ [] → new ++ put_in (λ c. c) more (text_given args list) ≡ out ++ put_in (λ c. c) (q ∷ more) (text_given args list)
+pub letter_piece : (out new : List ℕ) (args : Arguments) (list : List (ℕ × Arg)) (c : ℕ) (q : FormatPiece) (more : List FormatPiece) → q ≡ Letter c → new ≡ out ++ c ∷ [] → new ++ put_in (λ c. c) more (text_given args list) ≡ out ++ put_in (λ c. c) (q ∷ more) (text_given args list)
 letter_piece out new args list c q more is h =
     ap (λ xs. xs ++ put_in (λ c. c) more (text_given args list)) h ∙ append_assoc out (c ∷ []) (put_in (λ c. c) more (text_given args list)) ∙ ap (λ p. out ++ put_in (λ c. c) (p ∷ more) (text_given args list)) (sym is)
 
-pub no_argument : (out : List ℕ) (args : Arguments) (list : List (ℕ × Arg)) (q : Piece) (more : List Piece) → (digits : List ℕ) × (letter : ℕ) × (q ≡ Directive digits letter) → length list ≡ 0 → out ++ put_in (λ c. c) more (text_given args list) ≡ out ++ put_in (λ c. c) (q ∷ more) (text_given args list)
+pub no_argument : (out : List ℕ) (args : Arguments) (list : List (ℕ × Arg)) (q : FormatPiece) (more : List FormatPiece) → (digits : List ℕ) × (letter : ℕ) × (q ≡ Directive digits letter) → length list ≡ 0 → out ++ put_in (λ c. c) more (text_given args list) ≡ out ++ put_in (λ c. c) (q ∷ more) (text_given args list)
 no_argument out args [] q more h none = rw h.2 refl
 no_argument out args (a ∷ list) q more h none = absurd (omega (arith, none))
 
-pub next_argument : (out new : List ℕ) (args : Arguments) (list left : List (ℕ × Arg)) (a : ℕ × Arg) (q : Piece) (more : List Piece) → (digits : List ℕ) × (letter : ℕ) × (q ≡ Directive digits letter) → list ≡ a ∷ left → new ≡ out ++ given (syntaxes args) a.1.name.text → new ++ put_in (λ c. c) more (text_given args left) ≡ out ++ put_in (λ c. c) (q ∷ more) (text_given args list)
+pub next_argument : (out new : List ℕ) (args : Arguments) (list left : List (ℕ × Arg)) (a : ℕ × Arg) (q : FormatPiece) (more : List FormatPiece) → (digits : List ℕ) × (letter : ℕ) × (q ≡ Directive digits letter) → list ≡ a ∷ left → new ≡ out ++ given (syntaxes args) a.1.name.text → new ++ put_in (λ c. c) more (text_given args left) ≡ out ++ put_in (λ c. c) (q ∷ more) (text_given args list)
 next_argument out new args list left a q more h is e =
     ap (λ xs. xs ++ put_in (λ c. c) more (text_given args left)) e ∙ append_assoc out (given (syntaxes args) a.1.name.text) (put_in (λ c. c) more (text_given args left)) ∙ sym (rw (h.2, is) refl)

@@ -15,6 +15,7 @@ pub struct Run {
 }
 
 impl Run {
+    /// The bits with one more behind them.
     pub fn push(self, bit: bool) -> Run
         ensures { result ≡ spec.pushed_one self bit }
     {

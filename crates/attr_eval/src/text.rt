@@ -155,7 +155,7 @@ fn put_piece<'l>(
     limit: usize,
     out: &mut Text,
 ) -> Result<&'l [(u32, Arg)], Memory>
-    ensures { IfOk result (λ left. (args : Arguments) (ks : List ℕ) (ys : List ℤ) → WalksAll (entries [] items.now) (pars_of pars.now) limit args picks.now fields.now ks ys → (q : attribute.Piece) → IsPiece piece q → (more : List attribute.Piece) → out.new ++ put_in (λ c. c) more (text_given args left.now) ≡ out.old ++ put_in (λ c. c) (q ∷ more) (text_given args list.now)) }
+    ensures { IfOk result (λ left. (args : Arguments) (ks : List ℕ) (ys : List ℤ) → WalksAll (entries [] items.now) (pars_of pars.now) limit args picks.now fields.now ks ys → (q : attribute.FormatPiece) → IsPiece piece q → (more : List attribute.FormatPiece) → out.new ++ put_in (λ c. c) more (text_given args left.now) ≡ out.old ++ put_in (λ c. c) (q ∷ more) (text_given args list.now)) }
 {
     match piece {
         Piece::Letter(c) => {

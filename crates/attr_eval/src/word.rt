@@ -146,7 +146,7 @@ fn write_piece<'l>(
     limit: usize,
     out: Run,
 ) -> (Run, &'l [(u32, Arg)])
-    ensures { (args : Arguments) (ks : List ℕ) (ys : List ℤ) → WalksAll (entries [] items.now) (pars_of pars.now) limit args picks.now fields.now ks ys → (q : attribute.Piece) → IsPiece piece q → (more : List attribute.Piece) → pushed result.0 (put_in spec.bit more (bits_given args result.1.now)) ≡ pushed out (put_in spec.bit (q ∷ more) (bits_given args list.now)) }
+    ensures { (args : Arguments) (ks : List ℕ) (ys : List ℤ) → WalksAll (entries [] items.now) (pars_of pars.now) limit args picks.now fields.now ks ys → (q : attribute.FormatPiece) → IsPiece piece q → (more : List attribute.FormatPiece) → pushed result.0 (put_in spec.bit more (bits_given args result.1.now)) ≡ pushed out (put_in spec.bit (q ∷ more) (bits_given args list.now)) }
 {
     match piece {
         Piece::Letter(c) => (out.push(c == 49), list),
