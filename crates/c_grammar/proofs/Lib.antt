@@ -7,3 +7,4 @@ pub mod Complete
 pub mod Viable
 pub mod Settled
 pub mod LawfulExpressions
+pub mod Tailed

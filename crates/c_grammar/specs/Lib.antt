@@ -1,1 +1,4 @@
 pub mod Reading
+pub mod Until
+pub mod Statements
+pub mod Sample

@@ -1,9 +1,13 @@
-ghost use Rattle.std.specs.Prelude.{◌≡◌, ℕ, ◌≤◌, List};
-ghost use Rattle.readings.specs.Lawful.{IsLawful};
+ghost use Rattle.std.specs.Prelude.{◌≡◌, ℕ, ◌≤◌, Option, codes};
+ghost use Rattle.readings.specs.Readings.{Reading, ◌>>>◌, optional};
+ghost use Rattle.readings.specs.Lawful.{IsLawful, IsReading, optional_ends};
 ghost use Rattle.c_tree.specs.Formula.{Formula};
-ghost use Rattle.c_tree.specs.Level.{IsLeveled, unary_level};
-ghost use Rattle.c_tree.specs.Spell.{formula_spelling};
+ghost use Rattle.c_tree.specs.Statement.{Statement};
+ghost use Rattle.c_tree.specs.Level.{IsLeveled, unary_level, ends_open};
+ghost use Rattle.c_tree.specs.Spell.{formula_spelling, statement_spelling};
 ghost use Rattle.c_grammar.specs.Reading.{climb, IsEnd, IsGood};
+ghost use Rattle.c_grammar.specs.Until.{tailed_spelling, tailed_good};
+ghost use Rattle.c_grammar.specs.Statements.{IsGoodStatement, IsStatementEnd};
 
 /// A law: no symbols spell two expressions.
 pub fn one_expression()
@@ -15,4 +19,10 @@ pub fn one_expression()
 /// symbols and one more.
 pub fn read_expression()
     ensures { (k room : ℕ) → k ≤ unary_level → 1 ≤ room → IsLawful formula_spelling (IsGood k room) (IsEnd k) (λ n ss. climb n k room ss) }
+{}
+
+/// A law: an `else` belongs to the nearest `if`. Where statements of some depth are read lawfully, a statement and an `else` with its statement are:
+/// a statement that ends with an `if` without `else` has none behind it, and what is read has one wherever that is next.
+pub fn read_else()
+    ensures { (room : ℕ) (reads : Reading Statement) → IsReading statement_spelling (IsGoodStatement room) IsStatementEnd reads → IsReading (tailed_spelling (codes "else") statement_spelling statement_spelling) (tailed_good ends_open (IsGoodStatement room) (IsGoodStatement room)) (λ (p : Statement × Option (ℕ × Statement)) r. optional_ends (codes "else") IsStatementEnd p.1 r) (reads >>> optional (codes "else") reads) }
 {}
