@@ -8,3 +8,7 @@ pub mod Viable
 pub mod Settled
 pub mod LawfulExpressions
 pub mod Tailed
+pub mod Until
+pub mod Bodies
+pub mod LawfulWords
+pub mod LawfulDeclarations

@@ -1,4 +1,6 @@
 pub mod Reading
+pub mod Words
 pub mod Until
+pub mod Declarations
 pub mod Statements
 pub mod Sample

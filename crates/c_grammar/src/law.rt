@@ -1,13 +1,14 @@
-ghost use Rattle.std.specs.Prelude.{◌≡◌, ℕ, ◌≤◌, Option, codes};
+ghost use Rattle.std.specs.Prelude.{◌≡◌, ℕ, suc, ◌≤◌, Option, codes};
 ghost use Rattle.readings.specs.Readings.{Reading, ◌>>>◌, optional};
-ghost use Rattle.readings.specs.Lawful.{IsLawful, IsReading, optional_ends};
+ghost use Rattle.readings.specs.Lawful.{IsLawful, IsReading, Anywhere, optional_ends};
 ghost use Rattle.c_tree.specs.Formula.{Formula};
 ghost use Rattle.c_tree.specs.Statement.{Statement};
 ghost use Rattle.c_tree.specs.Level.{IsLeveled, unary_level, ends_open};
-ghost use Rattle.c_tree.specs.Spell.{formula_spelling, statement_spelling};
+ghost use Rattle.c_tree.specs.Spell.{formula_spelling, statement_spelling, declaration_spelling};
 ghost use Rattle.c_grammar.specs.Reading.{climb, IsEnd, IsGood};
+ghost use Rattle.c_grammar.specs.Declarations.{declaration};
 ghost use Rattle.c_grammar.specs.Until.{tailed_spelling, tailed_good};
-ghost use Rattle.c_grammar.specs.Statements.{IsGoodStatement, IsStatementEnd};
+ghost use Rattle.c_grammar.specs.Statements.{IsGoodStatement, IsStatementEnd, Piece, piece_spelling, IsGoodPiece, IsPieceEnd, IsGoodBody, closed_spelling, closed_body, IsGoodDeclaration};
 
 /// A law: no symbols spell two expressions.
 pub fn one_expression()
@@ -25,4 +26,14 @@ pub fn read_expression()
 /// a statement that ends with an `if` without `else` has none behind it, and what is read has one wherever that is next.
 pub fn read_else()
     ensures { (room : ℕ) (reads : Reading Statement) → IsReading statement_spelling (IsGoodStatement room) IsStatementEnd reads → IsReading (tailed_spelling (codes "else") statement_spelling statement_spelling) (tailed_good ends_open (IsGoodStatement room) (IsGoodStatement room)) (λ (p : Statement × Option (ℕ × Statement)) r. optional_ends (codes "else") IsStatementEnd p.1 r) (reads >>> optional (codes "else") reads) }
+{}
+
+/// A law: where the declarations and statements of a block are read lawfully, what stands between its braces is, with the second one.
+pub fn read_body()
+    ensures { (room : ℕ) (reads : Reading Piece) → IsReading piece_spelling (IsGoodPiece room) IsPieceEnd reads → IsReading closed_spelling (IsGoodBody room) Anywhere (closed_body reads) }
+{}
+
+/// A law: declarations of local variables, whose initial values are no deeper than `room`, are read lawfully.
+pub fn read_declaration()
+    ensures { (room : ℕ) → 1 ≤ room → IsReading declaration_spelling (IsGoodDeclaration (suc (suc room))) Anywhere (declaration room) }
 {}
