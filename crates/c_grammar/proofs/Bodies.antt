@@ -1,8 +1,6 @@
 -- The parts of a block up to its second brace are read lawfully, if each part is.
-use Rattle.std.proofs.Common.{◌≡◌, ℕ, ◌<◌, ◌≤◌, List, [], ◌∷◌, ◌++◌, length, length-append, Option, Some, None, refl, ap, sym, ◌∙◌, arith, append_assoc, true, false, IsTrue, Bool}
+use Rattle.std.proofs.Common.{◌≡◌, ℕ, ◌<◌, List, [], ◌∷◌, ◌++◌, length, None, refl, ap, ◌∙◌, arith}
 use Rattle.std.specs.Prelude.{codes, flat_map}
-use Rattle.c_tree.specs.declared.names.Name.{Name}
-use Rattle.c_tree.specs.declared.operator.Bin.{Bin}
 use Rattle.c_tree.specs.declared.names.TypeWord.{TypeWord}
 use Rattle.c_tree.specs.declared.names.TypeWord.TheVariants as type_word
 use Rattle.readings.specs.Symbol.{Symbol, fixed}
@@ -11,11 +9,11 @@ use Rattle.readings.specs.Readings.{Reading}
 use Rattle.readings.specs.Lawful.{IsReading, IsMade, Anywhere}
 use Rattle.readings.specs.Whole.{Goods}
 use Rattle.readings.proofs.Combining.{made_all}
-use Rattle.c_tree.specs.Formula.{Formula, Prefix, Numeral, Named, Indexed, Called, CalledWith, Paren, Unary, Binary}
+use Rattle.c_tree.specs.Formula.{Formula, Numeral, Named, Indexed, Called, CalledWith, Paren, Unary, Binary}
 use Rattle.c_tree.specs.Statement.{Declaration, Act, Assign, Step, Invoke, Statement, Braces, Empty, Simply, Break, Continue, Return, If, IfElse, While, Do, For, Body, Nothing, Declare, Then}
 use Rattle.c_tree.specs.Spell.{formula_spelling, act_spelling, statement_spelling, body_spelling, type_spelling, variable_spelling, further_variables_spelling}
 use Rattle.c_grammar.specs.Until.{until, until_spelling, until_good}
-use Rattle.c_grammar.specs.Statements.{IsCall, IsWritten, IsWrittenStatement, IsGoodStatement, Piece, Declaring, Stating, body_of, piece_spelling, IsGoodDeclaration, IsGoodPiece, IsPieceEnd, IsGoodBody, closed_spelling, closed_body}
+use Rattle.c_grammar.specs.Statements.{IsCall, IsWritten, IsWrittenStatement, Piece, Declaring, Stating, body_of, piece_spelling, IsGoodPiece, IsPieceEnd, IsGoodBody, closed_spelling, closed_body}
 use Rattle.c_grammar.proofs.Until.{until_law}
 
 -- ---- what a part begins with
@@ -128,9 +126,10 @@ pieces_good : (room : ℕ) (b : Body) (q : ℕ) → IsGoodBody room (b, q) → G
 pieces_good room Nothing q h = tt
 pieces_good room (Declare d rest) q h =
     (record { first = h.leveled.0; rest = h.leveled.1; shallow = omega (arith, h.shallow) }, pieces_good room rest q (record { written = h.written; leveled = h.leveled.2; shallow = omega (arith, h.shallow) }))
-pieces_good room (Then s rest) q h =
-    (record { written = h.written.0; leveled = h.leveled.0; shallow = omega (arith, h.shallow) },
-    pieces_good room rest q (record { written = h.written.1; leveled = h.leveled.1; shallow = omega (arith, h.shallow) }))
+pieces_good room (Then s rest) q h = (
+  record { written = h.written.0; leveled = h.leveled.0; shallow = omega (arith, h.shallow) },
+  pieces_good room rest q (record { written = h.written.1; leveled = h.leveled.1; shallow = omega (arith, h.shallow) }),
+)
 
 abbrev make : List Piece × ℕ → Body × ℕ
 make (ps, q) = (body_of ps, q)

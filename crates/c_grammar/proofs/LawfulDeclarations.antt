@@ -1,29 +1,29 @@
 -- Declarations of local variables are read lawfully.
-use Rattle.std.proofs.Common.{◌≡◌, ◌⊎◌, inl, inr, ℕ, suc, ◌<◌, ◌≤◌, List, [], ◌∷◌, ◌++◌, length, Option, Some, None, refl, ap, sym, ◌∙◌, subst, arith}
+use Rattle.std.proofs.Common.{◌≡◌, ◌⊎◌, inl, inr, ℕ, suc, ◌≤◌, List, [], ◌∷◌, ◌++◌, Option, Some, None, refl, ap, sym, ◌∙◌, subst, arith}
 use Rattle.std.specs.Prelude.{codes, flat_map}
 use Rattle.c_tree.specs.declared.names.Name.{Name}
 use Rattle.c_tree.specs.declared.names.Number.{Number}
 use Rattle.c_tree.specs.declared.names.TypeWord.{TypeWord}
 use Rattle.readings.specs.Symbol.{Symbol, fixed, beyond}
 use Rattle.readings.specs.Reading.{behind}
-use Rattle.readings.specs.Readings.{Reading, ◌>>>◌, made, given, sign}
+use Rattle.readings.specs.Readings.{Reading, ◌>>>◌, given, sign}
 use Rattle.readings.specs.Lawful.{IsReading, IsMade, Any, Anywhere}
 use Rattle.readings.specs.Whole.{Goods}
 use Rattle.readings.proofs.Symbols.{some_is, none_is_none}
-use Rattle.readings.proofs.Combining.{sign_law, given_law, made_law, made_all, then_law, then_free, other_law, picked, Behind, told_law}
+use Rattle.readings.proofs.Combining.{sign_law, given_law, made_law, made_all, then_law, then_free, picked, Behind, told_law}
 use Rattle.readings.proofs.CombiningWords.{made_front}
 use Rattle.readings.proofs.CombiningMarks.{by_mark_law}
 use Rattle.c_tree.specs.Formula.{Formula}
 use Rattle.c_tree.specs.Statement.{Variable, Scalar, Initial, Array, Declaration}
-use Rattle.c_tree.specs.Level.{IsLeveledVariable, AreLeveledVariables, unary_level}
-use Rattle.c_tree.specs.Depth.{variable_depth, further_variables_depth, declaration_depth}
-use Rattle.c_tree.specs.Spell.{name_spelling, number_spelling, type_spelling, variable_spelling, further_variables_spelling, declaration_spelling, formula_spelling}
+use Rattle.c_tree.specs.Level.{AreLeveledVariables}
+use Rattle.c_tree.specs.Depth.{further_variables_depth}
+use Rattle.c_tree.specs.Spell.{number_spelling, type_spelling, variable_spelling, further_variables_spelling, declaration_spelling, formula_spelling}
 use Rattle.c_grammar.specs.Reading.{IsEnd, IsGood}
-use Rattle.c_grammar.specs.Words.{name, number, type_word_read}
-use Rattle.c_grammar.specs.Until.{until, until_spelling, until_good}
+use Rattle.c_grammar.specs.Words.{number, type_word_read}
+use Rattle.c_grammar.specs.Until.{until_spelling, until_good}
 use Rattle.c_grammar.specs.Declarations.{expression, array, initial, array_from, without_initial, initial_from, variable_behind, variable, further_variables, declaration, IsGoodVariable, IsVariableEnd}
 use Rattle.c_grammar.specs.Statements.{IsGoodDeclaration}
-use Rattle.c_grammar.proofs.LawfulWords.{name_law, number_law, type_law}
+use Rattle.c_grammar.proofs.LawfulWords.{number_law, type_law}
 use Rattle.c_grammar.proofs.LawfulExpressions.{expression_law}
 use Rattle.c_grammar.proofs.Until.{until_law}
 use Rattle.c_grammar.proofs.Flat.{join4}
@@ -208,10 +208,11 @@ module _ (room : ℕ) (some : 1 ≤ room) where
       record { first = g.0.leveled; rest = t.0; shallow = omega (arith, g.0.shallow, t.1) }
 
   parts_from : (d : Declaration) → IsGoodDeclaration (suc (suc room)) d → IsMade parts_good declared d
-  parts_from d g =
-      ((d.word, (d.first, (d.rest, d.semicolon))),
-      (record { leveled = g.first; shallow = omega (arith, g.shallow) }, further_good d.rest g.rest (omega (arith, g.shallow))),
-      refl)
+  parts_from d g = (
+    (d.word, (d.first, (d.rest, d.semicolon))),
+    (record { leveled = g.first; shallow = omega (arith, g.shallow) }, further_good d.rest g.rest (omega (arith, g.shallow))),
+    refl,
+  )
 
   -- so declarations are read lawfully
   pub declaration_law : IsReading declaration_spelling (IsGoodDeclaration (suc (suc room))) Anywhere (declaration room)

@@ -1,15 +1,14 @@
 -- Every reading settles: with one call below another for each symbol, and one more, it is told where it ends or is stuck.
-use Rattle.std.proofs.Common.{◌≡◌, ℕ, zero, suc, ◌+◌, ◌-◌, ◌<◌, ◌≤◌, List, [], ◌∷◌, length, Option, Some, None, refl, ap, sym, ◌∙◌, arith, Bool, true, false}
-use Rattle.std.specs.Prelude.{if◌then◌else◌, nat_le, codes}
-use Rattle.nk_base.specs.Text.{text_eq}
+use Rattle.std.proofs.Common.{◌≡◌, ℕ, zero, suc, ◌-◌, ◌<◌, ◌≤◌, List, [], ◌∷◌, length, Option, Some, None, refl, arith}
+use Rattle.std.specs.Prelude.{nat_le, codes}
 use Rattle.c_tree.specs.declared.names.Name.{Name}
 use Rattle.c_tree.specs.declared.operator.Bin.{Bin}
 use Rattle.readings.specs.Symbol.{Symbol}
-use Rattle.c_tree.specs.Formula.{Formula, Further, Named, Called, CalledWith, Indexed, NoMore, More, Binary}
+use Rattle.c_tree.specs.Formula.{Formula, Binary}
 use Rattle.c_tree.specs.Spell.{binary_mark}
 use Rattle.c_tree.specs.Level.{binary_level, unary_level}
 use Rattle.c_tree.specs.Depth.{depth}
-use Rattle.readings.specs.Reading.{Read, Found, Stuck, after, looked_up, behind, mark}
+use Rattle.readings.specs.Reading.{Read, after, looked_up, behind, mark}
 use Rattle.c_grammar.specs.Reading.{operator, Beginning, Opening, Operation, beginnings, Reader, Others, others_from, arguments, call_from, call, named, paren, operation, begun, operand, turn, climb, more, further, reading}
 use Rattle.readings.proofs.Symbols.{behind_is}
 use Rattle.c_grammar.proofs.Symbols.{operator_is}
@@ -25,47 +24,47 @@ shorter t rest s e = rw e (omega arith)
 module _ (inner : Reader) (m : ℕ) (inner_ends : (k room : ℕ) (ss : List Symbol) → length ss < m → Ends m (inner k room ss)) (others : Others)
     (others_ends : (room : ℕ) (ss : List Symbol) → length ss < m → Ends m (others room ss))
   where
-  begun_ends : (room : ℕ) (here : List Symbol) (at : ℕ) (ss : List Symbol) (o : Option Beginning) → length ss < m → Ends m (begun inner room here at ss o)
-  begun_ends room here at ss None lt = tt
-  begun_ends room here at ss (Some Opening) lt =
-      if_ends m (nat_le room 1) here (paren inner room at ss)
-      (after_ends m (inner 0 (room - 1) ss) _ (inner_ends 0 (room - 1) ss lt) (λ x r l. after_ends m (mark (codes ")") r) _ (mark_ends m (codes ")") r l) (λ q s l. l)))
-  begun_ends room here at ss (Some (Operation op)) lt =
-      if_ends m (nat_le room 1) here (operation inner room op at ss) (after_ends m (inner unary_level (room - 1) ss) _ (inner_ends unary_level (room - 1) ss lt) (λ x r l. l))
+    begun_ends : (room : ℕ) (here : List Symbol) (at : ℕ) (ss : List Symbol) (o : Option Beginning) → length ss < m → Ends m (begun inner room here at ss o)
+    begun_ends room here at ss None lt = tt
+    begun_ends room here at ss (Some Opening) lt =
+        if_ends m (nat_le room 1) here (paren inner room at ss)
+        (after_ends m (inner 0 (room - 1) ss) _ (inner_ends 0 (room - 1) ss lt) (λ x r l. after_ends m (mark (codes ")") r) _ (mark_ends m (codes ")") r l) (λ q s l. l)))
+    begun_ends room here at ss (Some (Operation op)) lt =
+        if_ends m (nat_le room 1) here (operation inner room op at ss) (after_ends m (inner unary_level (room - 1) ss) _ (inner_ends unary_level (room - 1) ss lt) (λ x r l. l))
 
-  call_from_ends : (room : ℕ) (n : Name) (p : ℕ) (ss : List Symbol) (o : Option (ℕ × List Symbol)) → length ss < m → behind (codes ")") ss ≡ o → Ends m (call_from inner others room n p ss o)
-  call_from_ends room n p ss None lt i =
-      if_ends m (nat_le room 1) ss (arguments inner others room n p ss)
-      (after_ends m (inner 0 (room - 1) ss) _ (inner_ends 0 (room - 1) ss lt) (λ x r l. after_ends m (others (room - 1) r) _ (others_ends (room - 1) r l)
-      (λ xs t l2. after_ends m (mark (codes ")") t) _ (mark_ends m (codes ")") t l2) (λ q s l3. l3))))
-  call_from_ends room n p ss (Some (q, rest)) lt i = let l = shorter ss rest (Symbol.Fixed q (codes ")")) (behind_is (codes ")") ss q rest i) in omega (arith, lt, l)
+    call_from_ends : (room : ℕ) (n : Name) (p : ℕ) (ss : List Symbol) (o : Option (ℕ × List Symbol)) → length ss < m → behind (codes ")") ss ≡ o → Ends m (call_from inner others room n p ss o)
+    call_from_ends room n p ss None lt i =
+        if_ends m (nat_le room 1) ss (arguments inner others room n p ss)
+        (after_ends m (inner 0 (room - 1) ss) _ (inner_ends 0 (room - 1) ss lt) (λ x r l. after_ends m (others (room - 1) r) _ (others_ends (room - 1) r l)
+        (λ xs t l2. after_ends m (mark (codes ")") t) _ (mark_ends m (codes ")") t l2) (λ q s l3. l3))))
+    call_from_ends room n p ss (Some (q, rest)) lt i = let l = shorter ss rest (Symbol.Fixed q (codes ")")) (behind_is (codes ")") ss q rest i) in omega (arith, lt, l)
 
-  call_ends : (room : ℕ) (n : Name) (ss : List Symbol) (o : Option (ℕ × List Symbol)) → length ss < m → behind (codes "(") ss ≡ o → Ends m (call inner others room n ss o)
-  call_ends room n ss None lt i = lt
-  call_ends room n ss (Some (p, rest)) lt i =
-      let l = shorter ss rest (Symbol.Fixed p (codes "(")) (behind_is (codes "(") ss p rest i) in
-      call_from_ends room n p rest (behind (codes ")") rest) (omega (arith, lt, l)) refl
+    call_ends : (room : ℕ) (n : Name) (ss : List Symbol) (o : Option (ℕ × List Symbol)) → length ss < m → behind (codes "(") ss ≡ o → Ends m (call inner others room n ss o)
+    call_ends room n ss None lt i = lt
+    call_ends room n ss (Some (p, rest)) lt i =
+        let l = shorter ss rest (Symbol.Fixed p (codes "(")) (behind_is (codes "(") ss p rest i) in
+        call_from_ends room n p rest (behind (codes ")") rest) (omega (arith, lt, l)) refl
 
-  named_ends : (room : ℕ) (n : Name) (ss : List Symbol) (o : Option (ℕ × List Symbol)) → length ss < m → behind (codes "[") ss ≡ o → Ends m (named inner others room n ss o)
-  named_ends room n ss None lt i = call_ends room n ss (behind (codes "(") ss) lt refl
-  named_ends room n ss (Some (p, rest)) lt i =
-      let l = shorter ss rest (Symbol.Fixed p (codes "[")) (behind_is (codes "[") ss p rest i) in
-      if_ends m (nat_le room 1) ss _
-      (after_ends m (inner 0 (room - 1) rest) _ (inner_ends 0 (room - 1) rest (omega (arith, lt, l))) (λ i r l. after_ends m (mark (codes "]") r) _ (mark_ends m (codes "]") r l) (λ q s l. l)))
+    named_ends : (room : ℕ) (n : Name) (ss : List Symbol) (o : Option (ℕ × List Symbol)) → length ss < m → behind (codes "[") ss ≡ o → Ends m (named inner others room n ss o)
+    named_ends room n ss None lt i = call_ends room n ss (behind (codes "(") ss) lt refl
+    named_ends room n ss (Some (p, rest)) lt i =
+        let l = shorter ss rest (Symbol.Fixed p (codes "[")) (behind_is (codes "[") ss p rest i) in
+        if_ends m (nat_le room 1) ss _
+        (after_ends m (inner 0 (room - 1) rest) _ (inner_ends 0 (room - 1) rest (omega (arith, lt, l))) (λ i r l. after_ends m (mark (codes "]") r) _ (mark_ends m (codes "]") r l) (λ q s l. l)))
 
-  operand_ends : (room : ℕ) (ss : List Symbol) → length ss ≤ m → Ends m (operand inner others room ss)
-  operand_ends room [] le = tt
-  operand_ends room (Symbol.Fixed at text ∷ ss) le = begun_ends room (Symbol.Fixed at text ∷ ss) at ss (looked_up beginnings text) (omega arith)
-  operand_ends room (Symbol.Named at text ∷ ss) le = named_ends room (record { at = at; text = text }) ss (behind (codes "[") ss) (omega arith) refl
-  operand_ends room (Symbol.Number at value ∷ ss) le = omega arith
-  operand_ends room (Symbol.Quoted at text ∷ ss) le = tt
+    operand_ends : (room : ℕ) (ss : List Symbol) → length ss ≤ m → Ends m (operand inner others room ss)
+    operand_ends room [] le = tt
+    operand_ends room (Symbol.Fixed at text ∷ ss) le = begun_ends room (Symbol.Fixed at text ∷ ss) at ss (looked_up beginnings text) (omega arith)
+    operand_ends room (Symbol.Named at text ∷ ss) le = named_ends room (record { at = at; text = text }) ss (behind (codes "[") ss) (omega arith) refl
+    operand_ends room (Symbol.Number at value ∷ ss) le = omega arith
+    operand_ends room (Symbol.Quoted at text ∷ ss) le = tt
 
-  others_from_ends : (room : ℕ) (ss : List Symbol) (o : Option (ℕ × List Symbol)) → length ss ≤ m → behind (codes ",") ss ≡ o → Ends (suc m) (others_from inner others room ss o)
-  others_from_ends room ss None le i = omega arith
-  others_from_ends room ss (Some (comma, rest)) le i =
-      let l = shorter ss rest (Symbol.Fixed comma (codes ",")) (behind_is (codes ",") ss comma rest i) in
-      ends_more m (suc m) (others_from inner others room ss (Some (comma, rest))) (omega arith)
-      (after_ends m (inner 0 room rest) _ (inner_ends 0 room rest (omega (arith, le, l))) (λ x s h. after_ends m (others room s) _ (others_ends room s h) (λ xs t g. g)))
+    others_from_ends : (room : ℕ) (ss : List Symbol) (o : Option (ℕ × List Symbol)) → length ss ≤ m → behind (codes ",") ss ≡ o → Ends (suc m) (others_from inner others room ss o)
+    others_from_ends room ss None le i = omega arith
+    others_from_ends room ss (Some (comma, rest)) le i =
+        let l = shorter ss rest (Symbol.Fixed comma (codes ",")) (behind_is (codes ",") ss comma rest i) in
+        ends_more m (suc m) (others_from inner others room ss (Some (comma, rest))) (omega arith)
+        (after_ends m (inner 0 room rest) _ (inner_ends 0 room rest (omega (arith, le, l))) (λ x s h. after_ends m (others room s) _ (others_ends room s h) (λ xs t g. g)))
 
 -- a turn of the loop
 turn_ends : (inner : Reader) (next : Formula → List Symbol → Read Formula) (k room : ℕ) (left : Formula) (ss : List Symbol) → ((j space : ℕ) (t : List Symbol) → length t < length ss → Ends (length ss) (inner j space t))

@@ -1,10 +1,10 @@
 -- A thing and a tail behind a mark, which belongs to the nearest thing that may have it, are read lawfully.
-use Rattle.std.proofs.Common.{◌≡◌, ℕ, suc, ◌+◌, List, [], ◌∷◌, ◌++◌, length, Option, Some, None, refl, ap, sym, ◌∙◌, arith, append_assoc, append-nil, ⊎_elim, Bool, true, false, IsTrue}
+use Rattle.std.proofs.Common.{◌≡◌, ℕ, suc, ◌+◌, List, ◌∷◌, ◌++◌, length, Option, Some, None, refl, ap, sym, ◌∙◌, arith, append_assoc, append-nil, ⊎_elim, Bool, true, false, IsTrue}
 use Rattle.std.specs.Prelude.{IsFalse}
 use Rattle.readings.specs.Symbol.{Symbol}
-use Rattle.readings.specs.Reading.{Read, Found, Stuck, after, behind}
+use Rattle.readings.specs.Reading.{Found, Stuck, after, behind}
 use Rattle.readings.specs.Readings.{Reading, ◌>>>◌, optional, optional_from}
-use Rattle.readings.specs.Lawful.{Begins, Reads, IsReading, IsLawful, Settles, Eventually, IsLocal, optional_spelling, optional_good, optional_ends}
+use Rattle.readings.specs.Lawful.{Begins, Reads, IsReading, Settles, Eventually, optional_spelling, optional_good, optional_ends}
 use Rattle.readings.proofs.Symbols.{behind_is, behind_front, none_is_none}
 use Rattle.readings.proofs.After.{found_not_stuck, on, found_is, after_found, after_stuck}
 use Rattle.readings.proofs.Local.{found_local, after_local}
@@ -86,9 +86,14 @@ module _ {A B : Type 0} (text : List ℕ) (leaves_open : A → Bool) (spelled : 
         let is = behind_is text s at t i in
         ⊎_elim
         (λ f.
-        let v = k.law.viable n t rest f in
-        (Symbol.Fixed at text ∷ v.front, v.further, Some (at, v.thing), is ∙ ap (λ u. Symbol.Fixed at text ∷ u) v.left, (g, v.fits, closed (leaves_open x) s at t h is),
-        ap (λ u. Symbol.Fixed at text ∷ u) v.whole))
+        let v = k.law.viable n t rest f in (
+          Symbol.Fixed at text ∷ v.front,
+          v.further,
+          Some (at, v.thing),
+          is ∙ ap (λ u. Symbol.Fixed at text ∷ u) v.left,
+          (g, v.fits, closed (leaves_open x) s at t h is),
+          ap (λ u. Symbol.Fixed at text ∷ u) v.whole,
+        ))
         (λ f. found_not_stuck (Some (at, f.0)) f.1 rest f.3)
         (after_stuck (second n t) (λ y r. Found (Some (at, y)) r) rest e)
 

@@ -1,16 +1,13 @@
 -- Reading declarations of local variables from the front of a list of symbols.
-use Rattle.std.specs.Prelude.{ℕ, zero, suc, ◌≤◌, ◌≡◌, List, [], ◌∷◌, ◌++◌, Option, Some, None, codes}
+use Rattle.std.specs.Prelude.{ℕ, suc, ◌≤◌, ◌≡◌, List, Option, Some, None, codes}
 use Rattle.c_tree.specs.declared.names.Name.{Name}
-use Rattle.c_tree.specs.declared.names.Number.{Number}
-use Rattle.c_tree.specs.declared.names.TypeWord.{TypeWord}
-use Rattle.readings.specs.Symbol.{Symbol, fixed}
+use Rattle.readings.specs.Symbol.{Symbol}
 use Rattle.readings.specs.Reading.{Read, Found, after, behind}
-use Rattle.readings.specs.Readings.{Reading, ◌>>>◌, made, given, sign}
+use Rattle.readings.specs.Readings.{Reading, ◌>>>◌, made, sign}
 use Rattle.c_tree.specs.Formula.{Formula}
 use Rattle.c_tree.specs.Statement.{Variable, Scalar, Initial, Array, Declaration}
 use Rattle.c_tree.specs.Level.{IsLeveledVariable}
 use Rattle.c_tree.specs.Depth.{variable_depth}
-use Rattle.c_tree.specs.Spell.{variable_spelling}
 use Rattle.c_grammar.specs.Reading.{climb, IsEnd}
 use Rattle.c_grammar.specs.Words.{name, number, type_word_read}
 use Rattle.c_grammar.specs.Until.{until}

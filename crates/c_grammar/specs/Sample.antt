@@ -1,6 +1,6 @@
 -- What some lists of symbols are read as.
 use Rattle.std.specs.Prelude.{◌≡◌, refl, ℕ, List, [], ◌∷◌, codes}
-use Rattle.readings.specs.Symbol.{Symbol, Fixed, Named as NamedSymbol, Number}
+use Rattle.readings.specs.Symbol.{Fixed, Named as NamedSymbol, Number}
 use Rattle.c_tree.specs.declared.operator.Bin.TheVariants as bin
 use Rattle.c_tree.specs.Formula.{Formula, Prefix, Numeral, Named, Indexed, Called, CalledWith, Paren, Unary, Binary, NoMore, More}
 use Rattle.readings.specs.Reading.{Found, Stuck}
