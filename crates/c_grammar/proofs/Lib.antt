@@ -12,3 +12,4 @@ pub mod Until
 pub mod Bodies
 pub mod LawfulWords
 pub mod LawfulDeclarations
+pub mod LawfulGlobals

@@ -2,5 +2,6 @@ pub mod Reading
 pub mod Words
 pub mod Until
 pub mod Declarations
+pub mod Globals
 pub mod Statements
 pub mod Sample

@@ -1,12 +1,14 @@
 ghost use Rattle.std.specs.Prelude.{◌≡◌, ℕ, suc, ◌≤◌, Option, codes};
 ghost use Rattle.readings.specs.Readings.{Reading, ◌>>>◌, optional};
-ghost use Rattle.readings.specs.Lawful.{IsLawful, IsReading, Anywhere, optional_ends};
+ghost use Rattle.readings.specs.Lawful.{IsLawful, IsReading, Any, Anywhere, optional_ends};
 ghost use Rattle.c_tree.specs.Formula.{Formula};
 ghost use Rattle.c_tree.specs.Statement.{Statement};
 ghost use Rattle.c_tree.specs.Level.{IsLeveled, unary_level, ends_open};
 ghost use Rattle.c_tree.specs.Spell.{formula_spelling, statement_spelling, declaration_spelling};
+ghost use Rattle.c_tree.specs.SpellGlobals.{gvar_spelling};
 ghost use Rattle.c_grammar.specs.Reading.{climb, IsEnd, IsGood};
 ghost use Rattle.c_grammar.specs.Declarations.{declaration};
+ghost use Rattle.c_grammar.specs.Globals.{global_variable, IsGlobalEnd};
 ghost use Rattle.c_grammar.specs.Until.{tailed_spelling, tailed_good};
 ghost use Rattle.c_grammar.specs.Statements.{IsGoodStatement, IsStatementEnd, Piece, piece_spelling, IsGoodPiece, IsPieceEnd, IsGoodBody, closed_spelling, closed_body, IsGoodDeclaration};
 
@@ -36,4 +38,9 @@ pub fn read_body()
 /// A law: declarations of local variables, whose initial values are no deeper than `room`, are read lawfully.
 pub fn read_declaration()
     ensures { (room : ℕ) → 1 ≤ room → IsReading declaration_spelling (IsGoodDeclaration (suc (suc room))) Anywhere (declaration room) }
+{}
+
+/// A law: a global variable is read lawfully, with its initial values.
+pub fn read_global_variable()
+    ensures { IsReading gvar_spelling Any IsGlobalEnd global_variable }
 {}
