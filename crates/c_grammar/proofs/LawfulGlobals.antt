@@ -54,7 +54,7 @@ abbrev each : ℕ × SNum → List Symbol
 each p = fixed p.0 (codes ",") ++ snum_spelling p.1
 
 -- all of them may be read
-all_good : {A : Type 0} (xs : List A) → Goods {A = A} Any xs
+pub all_good : {A : Type 0} (xs : List A) → Goods {A = A} Any xs
 all_good [] = tt
 all_good (x ∷ xs) = (tt, all_good xs)
 

@@ -13,3 +13,4 @@ pub mod Bodies
 pub mod LawfulWords
 pub mod LawfulDeclarations
 pub mod LawfulGlobals
+pub mod LawfulParameters

@@ -9,6 +9,7 @@ ghost use Rattle.c_tree.specs.SpellGlobals.{gvar_spelling};
 ghost use Rattle.c_grammar.specs.Reading.{climb, IsEnd, IsGood};
 ghost use Rattle.c_grammar.specs.Declarations.{declaration};
 ghost use Rattle.c_grammar.specs.Globals.{global_variable, IsGlobalEnd};
+ghost use Rattle.c_grammar.specs.Parameters.{parameters, parameters_spelling};
 ghost use Rattle.c_grammar.specs.Until.{tailed_spelling, tailed_good};
 ghost use Rattle.c_grammar.specs.Statements.{IsGoodStatement, IsStatementEnd, Piece, piece_spelling, IsGoodPiece, IsPieceEnd, IsGoodBody, closed_spelling, closed_body, IsGoodDeclaration};
 
@@ -43,4 +44,9 @@ pub fn read_declaration()
 /// A law: a global variable is read lawfully, with its initial values.
 pub fn read_global_variable()
     ensures { IsReading gvar_spelling Any IsGlobalEnd global_variable }
+{}
+
+/// A law: the parameters of a function are read lawfully, up to the parenthesis that closes.
+pub fn read_parameters()
+    ensures { IsReading parameters_spelling Any Anywhere parameters }
 {}

@@ -5,4 +5,4 @@
 
 mod law;
 
-pub use law::{one_expression, read_body, read_declaration, read_else, read_expression, read_global_variable};
+pub use law::{one_expression, read_body, read_declaration, read_else, read_expression, read_global_variable, read_parameters};
