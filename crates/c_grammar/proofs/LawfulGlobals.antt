@@ -1,5 +1,5 @@
 -- Global variables are read lawfully.
-use Rattle.std.proofs.Common.{◌≡◌, ◌⊎◌, inl, inr, ℕ, ◌<◌, List, [], ◌∷◌, ◌++◌, length, Option, Some, None, refl, ap, sym, ◌∙◌, subst, arith, append_assoc}
+use Rattle.std.proofs.Common.{◌≡◌, ◌⊎◌, inl, inr, ℕ, List, [], ◌∷◌, ◌++◌, Option, Some, None, refl, ap, ◌∙◌, subst, arith, append_assoc}
 use Rattle.std.specs.Prelude.{codes, flat_map}
 use Rattle.c_tree.specs.declared.names.Name.{Name}
 use Rattle.c_tree.specs.declared.names.Number.{Number}
@@ -9,18 +9,18 @@ use Rattle.c_tree.specs.declared.program.GVar.TheVariants as gvars
 use Rattle.readings.specs.Symbol.{Symbol, fixed, beyond}
 use Rattle.readings.specs.Reading.{behind}
 use Rattle.readings.specs.Readings.{Reading, ◌>>>◌, made, sign, optional}
-use Rattle.readings.specs.Lawful.{IsReading, IsMade, Any, Anywhere, optional_spelling, optional_good, optional_ends}
+use Rattle.readings.specs.Lawful.{IsReading, IsMade, Any, Anywhere, optional_spelling, optional_ends}
 use Rattle.readings.specs.Whole.{Goods}
 use Rattle.readings.proofs.Symbols.{some_is, none_is_none}
-use Rattle.readings.proofs.Combining.{sign_law, made_law, made_all, then_free, other_law, picked, Behind, told_law}
+use Rattle.readings.proofs.Combining.{sign_law, made_law, then_free, other_law, picked, Behind, told_law}
 use Rattle.readings.proofs.CombiningWords.{made_front}
 use Rattle.readings.proofs.CombiningMarks.{by_mark_law, optional_free}
-use Rattle.c_tree.specs.Spell.{name_spelling, number_spelling}
-use Rattle.c_tree.specs.SpellGlobals.{snum_spelling, further_snums_spelling, initials_spelling, gvar_spelling, further_gvars_spelling}
-use Rattle.c_grammar.specs.Words.{name, number}
+use Rattle.c_tree.specs.Spell.{number_spelling}
+use Rattle.c_tree.specs.SpellGlobals.{snum_spelling, further_snums_spelling, initials_spelling, gvar_spelling}
+use Rattle.c_grammar.specs.Words.{number}
 use Rattle.c_grammar.specs.Until.{until, until_spelling, until_good}
 use Rattle.c_grammar.specs.Globals.{snum_from, snum, listed, row, global_array, global_scalar, global_from, global_behind, global_variable, further_globals, IsGlobalEnd}
-use Rattle.c_grammar.proofs.LawfulWords.{name_law, number_law}
+use Rattle.c_grammar.proofs.LawfulWords.{number_law}
 use Rattle.c_grammar.proofs.Until.{until_law}
 
 -- ---- initial values

@@ -1,5 +1,5 @@
 -- Parameters are read lawfully.
-use Rattle.std.proofs.Common.{◌≡◌, ℕ, ◌<◌, List, [], ◌∷◌, ◌++◌, length, Option, Some, None, refl, ap, arith}
+use Rattle.std.proofs.Common.{◌≡◌, ℕ, List, [], ◌∷◌, ◌++◌, Option, Some, None, refl, ap, arith}
 use Rattle.std.specs.Prelude.{codes, flat_map}
 use Rattle.c_tree.specs.declared.names.Name.{Name}
 use Rattle.c_tree.specs.declared.names.TypeWord.{TypeWord}
@@ -8,13 +8,13 @@ use Rattle.c_tree.specs.declared.program.Param.{Param}
 use Rattle.c_tree.specs.declared.program.Params.{Params}
 use Rattle.c_tree.specs.declared.program.Params.TheVariants as params
 use Rattle.readings.specs.Symbol.{Symbol, fixed, beyond}
-use Rattle.readings.specs.Readings.{Reading, ◌>>>◌, sign}
+use Rattle.readings.specs.Readings.{◌>>>◌, sign}
 use Rattle.readings.specs.Lawful.{IsReading, IsMade, Any, Anywhere}
 use Rattle.readings.proofs.Symbols.{Each}
 use Rattle.readings.proofs.Combining.{sign_law, made_law, made_all, then_free, other_law}
 use Rattle.readings.proofs.CombiningWords.{made_front, Word, ToldWord, worded_law, single_behind}
 use Rattle.c_tree.specs.Spell.{name_spelling, type_spelling}
-use Rattle.c_tree.specs.SpellGlobals.{param_spelling, further_params_spelling, params_spelling}
+use Rattle.c_tree.specs.SpellGlobals.{param_spelling, further_params_spelling}
 use Rattle.c_grammar.specs.Words.{name, type_word_read}
 use Rattle.c_grammar.specs.Until.{until, until_spelling, until_good}
 use Rattle.c_grammar.specs.Parameters.{parameter, Start, Closing, Empty, Typed, starts, behind_start, parameters, parameters_spelling}

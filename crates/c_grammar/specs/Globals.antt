@@ -1,7 +1,6 @@
 -- Reading global variables from the front of a list of symbols.
-use Rattle.std.specs.Prelude.{ℕ, ◌≡◌, List, [], ◌∷◌, Option, Some, None, codes}
+use Rattle.std.specs.Prelude.{ℕ, ◌≡◌, List, Option, Some, None, codes}
 use Rattle.c_tree.specs.declared.names.Name.{Name}
-use Rattle.c_tree.specs.declared.names.Number.{Number}
 use Rattle.c_tree.specs.declared.program.SNum.{SNum}
 use Rattle.c_tree.specs.declared.program.GVar.{GVar}
 use Rattle.c_tree.specs.declared.program.GVar.TheVariants as gvars

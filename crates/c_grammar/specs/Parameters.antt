@@ -1,6 +1,5 @@
 -- Reading the parameters of a function from the front of a list of symbols.
 use Rattle.std.specs.Prelude.{ℕ, List, [], ◌∷◌, ◌++◌, Option, Some, None, codes}
-use Rattle.c_tree.specs.declared.names.Name.{Name}
 use Rattle.c_tree.specs.declared.names.TypeWord.TheVariants as type_word
 use Rattle.c_tree.specs.declared.program.Param.{Param}
 use Rattle.c_tree.specs.declared.program.Params.{Params}

@@ -5,4 +5,7 @@
 
 mod law;
 
-pub use law::{one_expression, read_body, read_declaration, read_else, read_expression, read_global_variable, read_parameters};
+pub use law::{
+    one_expression, read_body, read_declaration, read_else, read_expression, read_global_variable,
+    read_parameters,
+};
