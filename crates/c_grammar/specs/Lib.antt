@@ -6,3 +6,4 @@ pub mod Globals
 pub mod Parameters
 pub mod Statements
 pub mod Sample
+pub mod SampleParts
