@@ -14,3 +14,4 @@ pub mod LawfulWords
 pub mod LawfulDeclarations
 pub mod LawfulGlobals
 pub mod LawfulParameters
+pub mod LawfulCalls

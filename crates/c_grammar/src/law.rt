@@ -1,6 +1,7 @@
 ghost use Rattle.std.specs.Prelude.{◌≡◌, ℕ, suc, ◌≤◌, Option, codes};
 ghost use Rattle.readings.specs.Readings.{Reading, ◌>>>◌, optional};
 ghost use Rattle.readings.specs.Lawful.{IsLawful, IsReading, Any, Anywhere, optional_ends};
+ghost use Rattle.c_tree.specs.declared.names.Name.{Name};
 ghost use Rattle.c_tree.specs.Formula.{Formula};
 ghost use Rattle.c_tree.specs.Statement.{Statement};
 ghost use Rattle.c_tree.specs.Level.{IsLeveled, unary_level, ends_open};
@@ -8,6 +9,7 @@ ghost use Rattle.c_tree.specs.Spell.{formula_spelling, statement_spelling, decla
 ghost use Rattle.c_tree.specs.SpellGlobals.{gvar_spelling};
 ghost use Rattle.c_grammar.specs.Reading.{climb, IsEnd, IsGood};
 ghost use Rattle.c_grammar.specs.Declarations.{declaration};
+ghost use Rattle.c_grammar.specs.Calls.{called, inside_call, IsCallOf};
 ghost use Rattle.c_grammar.specs.Globals.{global_variable, IsGlobalEnd};
 ghost use Rattle.c_grammar.specs.Parameters.{parameters, parameters_spelling};
 ghost use Rattle.c_grammar.specs.Until.{tailed_spelling, tailed_good};
@@ -49,4 +51,9 @@ pub fn read_global_variable()
 /// A law: the parameters of a function are read lawfully, up to the parenthesis that closes.
 pub fn read_parameters()
     ensures { IsReading parameters_spelling Any Anywhere parameters }
+{}
+
+/// A law: what stands behind the name and the parenthesis of a call, whose arguments are no deeper than `room`, is read lawfully.
+pub fn read_call()
+    ensures { (room : ℕ) → 1 ≤ room → (x : Name) (p : ℕ) → IsReading inside_call (IsCallOf room x p) Anywhere (called room x p) }
 {}
