@@ -1,18 +1,17 @@
 -- The arguments of a call are read lawfully.
-use Rattle.std.proofs.Common.{◌≡◌, ◌⊎◌, inl, inr, ℕ, ◌<◌, ◌≤◌, List, [], ◌∷◌, ◌++◌, length, Option, Some, None, refl, ap, sym, ◌∙◌, subst, arith, append_assoc}
+use Rattle.std.proofs.Common.{◌≡◌, ◌⊎◌, inl, inr, ℕ, ◌≤◌, List, [], ◌∷◌, ◌++◌, None, refl, ap, sym, ◌∙◌, subst, arith, append_assoc}
 use Rattle.std.specs.Prelude.{codes, flat_map}
 use Rattle.c_tree.specs.declared.names.Name.{Name}
 use Rattle.readings.specs.Symbol.{Symbol, fixed, beyond}
 use Rattle.readings.specs.Reading.{behind}
-use Rattle.readings.specs.Readings.{Reading, ◌>>>◌, given, sign}
+use Rattle.readings.specs.Readings.{◌>>>◌, given, sign}
 use Rattle.readings.specs.Lawful.{IsReading, IsMade, Anywhere}
 use Rattle.readings.proofs.Combining.{sign_law, given_law, made_law, then_law, then_free}
 use Rattle.readings.proofs.CombiningMarks.{by_mark_law}
 use Rattle.c_tree.specs.Formula.{Formula, Called, further}
-use Rattle.c_tree.specs.Level.{unary_level}
 use Rattle.c_tree.specs.Spell.{formula_spelling, further_spelling}
 use Rattle.c_grammar.specs.Reading.{IsEnd, IsGood}
-use Rattle.c_grammar.specs.Until.{until, until_spelling, until_good}
+use Rattle.c_grammar.specs.Until.{until, until_spelling}
 use Rattle.c_grammar.specs.Declarations.{expression}
 use Rattle.c_grammar.specs.Calls.{Arguments, call_of, with_arguments, called_from, called, arguments_good, IsCallOf, Alone, With, inside_call}
 use Rattle.c_grammar.proofs.Flat.{join4}

@@ -1,8 +1,8 @@
 -- Reading the arguments of a call that is a statement.
 use Rattle.std.specs.Prelude.{◌≡◌, ℕ, List, Option, Some, None, codes}
 use Rattle.c_tree.specs.declared.names.Name.{Name}
-use Rattle.readings.specs.Symbol.{Symbol, fixed, beyond}
-use Rattle.readings.specs.Reading.{Read, Found, behind}
+use Rattle.readings.specs.Symbol.{Symbol, beyond}
+use Rattle.readings.specs.Reading.{Read, behind}
 use Rattle.readings.specs.Readings.{Reading, ◌>>>◌, made, given, sign}
 use Rattle.readings.specs.Lawful.{IsMade}
 use Rattle.c_tree.specs.Formula.{Formula, Called, CalledWith, further}

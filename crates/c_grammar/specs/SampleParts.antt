@@ -1,12 +1,12 @@
 -- What some declarations, global variables and parameters are read as.
-use Rattle.std.specs.Prelude.{◌≡◌, refl, ℕ, List, [], ◌∷◌, Option, Some, None, codes}
-use Rattle.readings.specs.Symbol.{Symbol, Fixed, Named as NamedSymbol, Number}
+use Rattle.std.specs.Prelude.{◌≡◌, refl, ℕ, List, [], ◌∷◌, Some, codes}
+use Rattle.readings.specs.Symbol.{Fixed, Named as NamedSymbol, Number}
 use Rattle.c_tree.specs.declared.names.Name.{Name}
 use Rattle.c_tree.specs.declared.names.TypeWord.TheVariants as type_word
 use Rattle.c_tree.specs.declared.program.GVar.TheVariants as gvars
 use Rattle.c_tree.specs.declared.program.Params.TheVariants as params
 use Rattle.c_tree.specs.Formula.{Numeral}
-use Rattle.c_tree.specs.Statement.{Scalar, Initial, Array}
+use Rattle.c_tree.specs.Statement.{Initial, Array}
 use Rattle.readings.specs.Reading.{Found, Stuck}
 use Rattle.c_grammar.specs.Declarations.{declaration}
 use Rattle.c_grammar.specs.Globals.{global_variable}
