@@ -122,7 +122,7 @@ further_one comma x xs whole whole_xs room s leveled deep h =
     )
 
 -- an expression doesn't begin with a closing parenthesis
-not_closing : (x : Formula) (s : List Symbol) → behind (codes ")") (formula_spelling x ++ s) ≡ None
+pub not_closing : (x : Formula) (s : List Symbol) → behind (codes ")") (formula_spelling x ++ s) ≡ None
 not_closing (Numeral n) s = refl
 not_closing (Named n) s = refl
 not_closing (Indexed n p i q) s = refl

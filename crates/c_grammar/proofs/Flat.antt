@@ -4,7 +4,7 @@ use Rattle.std.specs.Prelude.{codes}
 use Rattle.c_tree.specs.declared.names.Name.{Name}
 use Rattle.c_tree.specs.declared.operator.Bin.{Bin}
 use Rattle.readings.specs.Symbol.{Symbol}
-use Rattle.c_tree.specs.Formula.{Formula, Further, Numeral, Named, Indexed, Called, CalledWith, Paren, Unary, Binary, NoMore, More}
+use Rattle.c_tree.specs.Formula.{Formula, Further, Numeral, Named, Indexed, Called, CalledWith, Paren, Unary, Binary, More}
 use Rattle.c_tree.specs.Depth.{depth}
 use Rattle.c_tree.specs.Spell.{formula_spelling, further_spelling, binary_mark}
 

@@ -4,10 +4,10 @@ use Rattle.std.specs.Prelude.{nat_le, codes}
 use Rattle.c_tree.specs.declared.names.Name.{Name}
 use Rattle.c_tree.specs.declared.operator.Bin.{Bin}
 use Rattle.readings.specs.Symbol.{Symbol}
-use Rattle.c_tree.specs.Formula.{Formula, Further, Binary}
+use Rattle.c_tree.specs.Formula.{Formula, Binary}
 use Rattle.c_tree.specs.Level.{binary_level, unary_level}
 use Rattle.c_tree.specs.Depth.{depth}
-use Rattle.readings.specs.Reading.{Read, looked_up, behind, mark}
+use Rattle.readings.specs.Reading.{Read, looked_up, behind}
 use Rattle.c_grammar.specs.Reading.{operator, Beginning, Opening, Operation, beginnings, Reader, Others, others_from, call_from, call, named, begun, operand, turn, climb, more, further}
 use Rattle.readings.proofs.Keeps.{Keeps, Same, Short, after_keeps, if_keeps, room_keeps}
 

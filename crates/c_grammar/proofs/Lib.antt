@@ -7,3 +7,11 @@ pub mod Complete
 pub mod Viable
 pub mod Settled
 pub mod LawfulExpressions
+pub mod Tailed
+pub mod Until
+pub mod Bodies
+pub mod LawfulWords
+pub mod LawfulDeclarations
+pub mod LawfulGlobals
+pub mod LawfulParameters
+pub mod LawfulCalls

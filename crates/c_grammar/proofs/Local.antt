@@ -5,13 +5,13 @@ use Rattle.nk_base.specs.Text.{text_eq}
 use Rattle.c_tree.specs.declared.names.Name.{Name}
 use Rattle.c_tree.specs.declared.operator.Bin.{Bin}
 use Rattle.readings.specs.Symbol.{Symbol}
-use Rattle.c_tree.specs.Formula.{Formula, Further, Prefix, Numeral, Named, Indexed, Called, CalledWith, Paren, Unary, Binary, NoMore, More}
+use Rattle.c_tree.specs.Formula.{Formula, Prefix, Numeral, Named, Indexed, Called, CalledWith, Paren, Unary, Binary, NoMore, More}
 use Rattle.c_tree.specs.Level.{binary_level, unary_level}
 use Rattle.c_tree.specs.Depth.{depth}
 use Rattle.readings.specs.Reading.{Read, Found, Stuck, after, looked_up, behind, mark, with_room}
 use Rattle.c_grammar.specs.Reading.{operators, of_level, operator, Beginning, Opening, Operation, beginnings, Reader, Others, others_from, arguments, call_from, call, named, paren, operation, begun, operand, turn, climb, more, further}
 use Rattle.readings.specs.Lawful.{rest_of, with_rest, Locally, IsLocal}
-use Rattle.readings.proofs.Local.{unread_locally, stuck_empty, found_empty, stuck_at, found_before, found_local, taken, tested, after_local, mark_local, first_is, agree_local, empty_local}
+use Rattle.readings.proofs.Local.{unread_locally, stuck_empty, found_empty, stuck_at, found_before, found_local, taken, tested, after_local, mark_local, agree_local, empty_local}
 use Rattle.readings.proofs.CombiningMarks.{by_mark_local}
 
 -- a test on whether there is room, before all that is read

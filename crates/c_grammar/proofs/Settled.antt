@@ -1,15 +1,14 @@
 -- Every reading settles: with one call below another for each symbol, and one more, it is told where it ends or is stuck.
-use Rattle.std.proofs.Common.{◌≡◌, ℕ, zero, suc, ◌+◌, ◌-◌, ◌<◌, ◌≤◌, List, [], ◌∷◌, length, Option, Some, None, refl, ap, sym, ◌∙◌, arith, Bool, true, false}
-use Rattle.std.specs.Prelude.{if◌then◌else◌, nat_le, codes}
-use Rattle.nk_base.specs.Text.{text_eq}
+use Rattle.std.proofs.Common.{◌≡◌, ℕ, zero, suc, ◌-◌, ◌<◌, ◌≤◌, List, [], ◌∷◌, length, Option, Some, None, refl, arith}
+use Rattle.std.specs.Prelude.{nat_le, codes}
 use Rattle.c_tree.specs.declared.names.Name.{Name}
 use Rattle.c_tree.specs.declared.operator.Bin.{Bin}
 use Rattle.readings.specs.Symbol.{Symbol}
-use Rattle.c_tree.specs.Formula.{Formula, Further, Named, Called, CalledWith, Indexed, NoMore, More, Binary}
+use Rattle.c_tree.specs.Formula.{Formula, Binary}
 use Rattle.c_tree.specs.Spell.{binary_mark}
 use Rattle.c_tree.specs.Level.{binary_level, unary_level}
 use Rattle.c_tree.specs.Depth.{depth}
-use Rattle.readings.specs.Reading.{Read, Found, Stuck, after, looked_up, behind, mark}
+use Rattle.readings.specs.Reading.{Read, after, looked_up, behind, mark}
 use Rattle.c_grammar.specs.Reading.{operator, Beginning, Opening, Operation, beginnings, Reader, Others, others_from, arguments, call_from, call, named, paren, operation, begun, operand, turn, climb, more, further, reading}
 use Rattle.readings.proofs.Symbols.{behind_is}
 use Rattle.c_grammar.proofs.Symbols.{operator_is}

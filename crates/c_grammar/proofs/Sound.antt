@@ -10,7 +10,7 @@ use Rattle.c_tree.specs.Spell.{formula_spelling, further_spelling, binary_mark, 
 use Rattle.c_tree.specs.Level.{level, binary_level, unary_level, IsLeveled, IsLeveledFurther}
 use Rattle.c_tree.specs.Depth.{depth, further_depth}
 use Rattle.readings.specs.Reading.{Read, Found, Stuck, after, looked_up, behind, mark}
-use Rattle.c_grammar.specs.Reading.{operator, Beginning, Opening, Operation, beginnings, Reader, Others, others_from, arguments, call_from, call, named, paren, operation, begun, operand, turn, climb, more, further, HasNoOperator, HasNoIndex, IsEnd}
+use Rattle.c_grammar.specs.Reading.{operator, Beginning, Opening, Operation, beginnings, Reader, Others, others_from, call_from, call, named, paren, operation, begun, operand, turn, climb, more, further, HasNoOperator, HasNoIndex, IsEnd}
 use Rattle.readings.proofs.Symbols.{above, within, behind_is, mark_is}
 use Rattle.c_grammar.proofs.Symbols.{stops_more, stops_unary, below_unary, operator_is, beginning_is, beginning_text, tight_of}
 use Rattle.c_grammar.proofs.Flat.{one_node, flat-Indexed, flat-CalledWith, flat-More, flat-Paren, flat-Binary}

@@ -1,5 +1,5 @@
 -- Single symbols: the operators of two operands, and what an operand begins with.
-use Rattle.std.proofs.Common.{◌≡◌, ℕ, suc, ◌<◌, ◌≤◌, List, [], ◌∷◌, ◌++◌, Option, Some, None, refl, ap, sym, ◌∙◌, subst, arith, lit<, true, false, ⊎_elim}
+use Rattle.std.proofs.Common.{◌≡◌, ℕ, suc, ◌<◌, ◌≤◌, List, [], ◌∷◌, Option, Some, None, refl, ap, sym, ◌∙◌, subst, arith, lit<, ⊎_elim}
 use Rattle.std.proofs.lemmas.Bool.{cases_lt}
 use Rattle.std.specs.Prelude.{codes}
 use Rattle.c_tree.specs.declared.operator.Bin.{Bin}
@@ -7,7 +7,7 @@ use Rattle.readings.specs.Symbol.{Symbol}
 use Rattle.c_tree.specs.Formula.{Prefix}
 use Rattle.c_tree.specs.Spell.{binary_mark, prefix_mark}
 use Rattle.c_tree.specs.Level.{binary_level, unary_level}
-use Rattle.readings.specs.Reading.{looked_up, behind}
+use Rattle.readings.specs.Reading.{looked_up}
 use Rattle.c_grammar.specs.Reading.{operators, of_level, operator, Beginning, Opening, Operation, beginnings, HasNoOperator, HasNoSuffix}
 use Rattle.readings.proofs.Symbols.{above, within, some_is, none_is_none, Each, entry}
 use Rattle.c_tree.specs.declared.operator.Bin.TheVariants as bin

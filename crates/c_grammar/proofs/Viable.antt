@@ -7,13 +7,13 @@ use Rattle.c_tree.specs.declared.operator.Bin.{Bin}
 use Rattle.readings.specs.Symbol.{Symbol}
 use Rattle.c_tree.specs.Formula.{Formula, Further, Prefix, Numeral, Named, Indexed, Called, CalledWith, Paren, Unary, Binary, NoMore, More}
 use Rattle.c_tree.specs.Spell.{formula_spelling, further_spelling, binary_mark, prefix_mark}
-use Rattle.c_tree.specs.Level.{level, binary_level, unary_level, IsLeveled, IsLeveledFurther}
+use Rattle.c_tree.specs.Level.{level, binary_level, unary_level, IsLeveledFurther}
 use Rattle.c_tree.specs.Depth.{depth, further_depth}
 use Rattle.readings.specs.Reading.{Read, Found, Stuck, after, looked_up, behind, mark, with_room}
 use Rattle.c_grammar.specs.Reading.{operator, Beginning, Opening, Operation, beginnings, Reader, Others, others_from, arguments, call_from, call, named, paren, operation, begun, operand, turn, climb, more, further, IsGood}
 use Rattle.readings.proofs.Symbols.{above, within, behind_is}
 use Rattle.c_grammar.proofs.Symbols.{stops_more, stops_unary, below_unary, operator_is, beginning_is, tight_of}
-use Rattle.c_grammar.proofs.Flat.{one_node, flat-Indexed, flat-CalledWith, flat-More, flat-Paren}
+use Rattle.c_grammar.proofs.Flat.{one_node, flat-Indexed, flat-CalledWith, flat-Paren}
 use Rattle.c_grammar.proofs.Sound.{Ready, IsSound, AreSound, operand_sound, turned, climb_sound, further_sound}
 use Rattle.readings.proofs.After.{stuck_is, after_stuck, room_stuck, found_not_stuck}
 use Rattle.readings.proofs.Going.{Goes, Then, after_goes, IsDone, done_goes, glue, Closes, closes, closed_is}

@@ -1,1 +1,10 @@
 pub mod Reading
+pub mod Words
+pub mod Until
+pub mod Declarations
+pub mod Calls
+pub mod Globals
+pub mod Parameters
+pub mod Statements
+pub mod Sample
+pub mod SampleParts

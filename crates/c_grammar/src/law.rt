@@ -1,9 +1,19 @@
-ghost use Rattle.std.specs.Prelude.{◌≡◌, ℕ, ◌≤◌, List};
-ghost use Rattle.readings.specs.Lawful.{IsLawful};
+ghost use Rattle.std.specs.Prelude.{◌≡◌, ℕ, suc, ◌≤◌, Option, codes};
+ghost use Rattle.readings.specs.Readings.{Reading, ◌>>>◌, optional};
+ghost use Rattle.readings.specs.Lawful.{IsLawful, IsReading, Any, Anywhere, optional_ends};
+ghost use Rattle.c_tree.specs.declared.names.Name.{Name};
 ghost use Rattle.c_tree.specs.Formula.{Formula};
-ghost use Rattle.c_tree.specs.Level.{IsLeveled, unary_level};
-ghost use Rattle.c_tree.specs.Spell.{formula_spelling};
+ghost use Rattle.c_tree.specs.Statement.{Statement};
+ghost use Rattle.c_tree.specs.Level.{IsLeveled, unary_level, ends_open};
+ghost use Rattle.c_tree.specs.Spell.{formula_spelling, statement_spelling, declaration_spelling};
+ghost use Rattle.c_tree.specs.SpellGlobals.{gvar_spelling};
 ghost use Rattle.c_grammar.specs.Reading.{climb, IsEnd, IsGood};
+ghost use Rattle.c_grammar.specs.Declarations.{declaration};
+ghost use Rattle.c_grammar.specs.Calls.{called, inside_call, IsCallOf};
+ghost use Rattle.c_grammar.specs.Globals.{global_variable, IsGlobalEnd};
+ghost use Rattle.c_grammar.specs.Parameters.{parameters, parameters_spelling};
+ghost use Rattle.c_grammar.specs.Until.{tailed_spelling, tailed_good};
+ghost use Rattle.c_grammar.specs.Statements.{IsGoodStatement, IsStatementEnd, Piece, piece_spelling, IsGoodPiece, IsPieceEnd, IsGoodBody, closed_spelling, closed_body, IsGoodDeclaration};
 
 /// A law: no symbols spell two expressions.
 pub fn one_expression()
@@ -15,4 +25,35 @@ pub fn one_expression()
 /// symbols and one more.
 pub fn read_expression()
     ensures { (k room : ℕ) → k ≤ unary_level → 1 ≤ room → IsLawful formula_spelling (IsGood k room) (IsEnd k) (λ n ss. climb n k room ss) }
+{}
+
+/// A law: an `else` belongs to the nearest `if`. Where statements of some depth are read lawfully, a statement and an `else` with its statement are:
+/// a statement that ends with an `if` without `else` has none behind it, and what is read has one wherever that is next.
+pub fn read_else()
+    ensures { (room : ℕ) (reads : Reading Statement) → IsReading statement_spelling (IsGoodStatement room) IsStatementEnd reads → IsReading (tailed_spelling (codes "else") statement_spelling statement_spelling) (tailed_good ends_open (IsGoodStatement room) (IsGoodStatement room)) (λ (p : Statement × Option (ℕ × Statement)) r. optional_ends (codes "else") IsStatementEnd p.1 r) (reads >>> optional (codes "else") reads) }
+{}
+
+/// A law: where the declarations and statements of a block are read lawfully, what stands between its braces is, with the second one.
+pub fn read_body()
+    ensures { (room : ℕ) (reads : Reading Piece) → IsReading piece_spelling (IsGoodPiece room) IsPieceEnd reads → IsReading closed_spelling (IsGoodBody room) Anywhere (closed_body reads) }
+{}
+
+/// A law: declarations of local variables, whose initial values are no deeper than `room`, are read lawfully.
+pub fn read_declaration()
+    ensures { (room : ℕ) → 1 ≤ room → IsReading declaration_spelling (IsGoodDeclaration (suc (suc room))) Anywhere (declaration room) }
+{}
+
+/// A law: a global variable is read lawfully, with its initial values.
+pub fn read_global_variable()
+    ensures { IsReading gvar_spelling Any IsGlobalEnd global_variable }
+{}
+
+/// A law: the parameters of a function are read lawfully, up to the parenthesis that closes.
+pub fn read_parameters()
+    ensures { IsReading parameters_spelling Any Anywhere parameters }
+{}
+
+/// A law: what stands behind the name and the parenthesis of a call, whose arguments are no deeper than `room`, is read lawfully.
+pub fn read_call()
+    ensures { (room : ℕ) → 1 ≤ room → (x : Name) (p : ℕ) → IsReading inside_call (IsCallOf room x p) Anywhere (called room x p) }
 {}

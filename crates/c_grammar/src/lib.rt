@@ -1,8 +1,12 @@
-//! The grammar of programs: how symbols are read, and that they spell one expression or none.
+//! The grammar of programs: how symbols are read as expressions, declarations, bodies of blocks, global variables and
+//! parameters, and that they spell one expression or none.
 //!
 //! These are definitions and laws alone.
 #![tactic(auto)]
 
 mod law;
 
-pub use law::{one_expression, read_expression};
+pub use law::{
+    one_expression, read_body, read_call, read_declaration, read_else, read_expression,
+    read_global_variable, read_parameters,
+};

@@ -1,0 +1,42 @@
+-- Readings of lists that end where a mark is next, and of what may have a tail behind a mark.
+use Rattle.std.specs.Prelude.{◌≡◌, ℕ, zero, suc, Bool, IsTrue, IsFalse, List, [], ◌∷◌, ◌++◌, Option, Some, None, flat_map}
+use Rattle.readings.specs.Symbol.{Symbol, fixed}
+use Rattle.readings.specs.Reading.{Read, Found, Unread, after, behind}
+use Rattle.readings.specs.Readings.{Reading}
+use Rattle.readings.specs.Lawful.{optional_spelling}
+use Rattle.readings.specs.Whole.{Goods}
+
+-- ---- up to a mark
+
+-- where the mark is next the list ends, and else a thing and those behind it are read
+abbrev pub until_from : {A : Type 0} → Reading A → (List Symbol → Read (List A × ℕ)) → ℕ → List Symbol → Option (ℕ × List Symbol) → Read (List A × ℕ)
+until_from reads others n ss None = after (reads n ss) (λ x s. after (others s) (λ (xs, at) t. Found (x ∷ xs, at) t))
+until_from reads others n ss (Some (at, rest)) = Found ([], at) rest
+
+-- things one behind the other up to this mark, which is read too
+abbrev pub until : {A : Type 0} → List ℕ → Reading A → Reading (List A × ℕ)
+until text reads zero ss = Unread
+until text reads (suc n) ss = until_from reads (λ s. until text reads n s) (suc n) ss (behind text ss)
+
+-- the symbols of the things, and the mark
+abbrev pub until_spelling : {A : Type 0} → List ℕ → (A → List Symbol) → List A × ℕ → List Symbol
+until_spelling text spelled (xs, at) = flat_map spelled xs ++ fixed at text
+
+-- each of the things may be read
+abbrev pub until_good : {A : Type 0} → (A → Type 0) → List A × ℕ → Type 0
+until_good good (xs, at) = Goods good xs
+
+-- ---- a tail behind a mark
+
+-- what is open may not have the mark behind it, since that would belong to what it ends with
+abbrev pub OpenEnds : {A : Type 0} → (A → Bool) → List ℕ → A → List Symbol → Type 0
+OpenEnds leaves_open text x r = IsTrue (leaves_open x) → behind text r ≡ None
+
+-- a thing and its tail, where there is one
+abbrev pub tailed_spelling : {A B : Type 0} → List ℕ → (A → List Symbol) → (B → List Symbol) → A × Option (ℕ × B) → List Symbol
+tailed_spelling text spelled spelled2 (x, o) = spelled x ++ optional_spelling text spelled2 o
+
+-- what is open has none
+abbrev pub tailed_good : {A B : Type 0} → (A → Bool) → (A → Type 0) → (B → Type 0) → A × Option (ℕ × B) → Type 0
+tailed_good leaves_open good good2 (x, None) = good x
+tailed_good leaves_open good good2 (x, Some (at, y)) = good x × good2 y × IsFalse (leaves_open x)
