@@ -2,3 +2,5 @@ pub mod Walks
 pub mod Turn
 pub mod Run
 pub mod Found
+pub mod Operand
+pub mod Lawful

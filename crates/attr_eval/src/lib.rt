@@ -1,6 +1,8 @@
 //! The attributes of a derivation, by the definitions: the reference for what the tools do faster.
 #![tactic(auto)]
 
+mod laws;
+mod operate;
 mod piece;
 mod run;
 mod skip;
@@ -8,5 +10,7 @@ mod text;
 mod turn;
 mod word;
 
+pub use laws::legal_by_pairs;
+pub use operate::{binary, unary};
 pub use text::syntax;
 pub use word::image;
