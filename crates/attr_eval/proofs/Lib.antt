@@ -7,3 +7,5 @@ pub mod Syntaxes
 pub mod TwosComplement
 pub mod Shifts
 pub mod AllPaths
+pub mod Values
+pub mod AloneLaws

@@ -4,3 +4,5 @@ pub mod Run
 pub mod Found
 pub mod Operand
 pub mod Lawful
+pub mod Node
+pub mod Alone

@@ -5,12 +5,15 @@ mod laws;
 mod operate;
 mod piece;
 mod run;
+mod shape;
 mod skip;
 mod text;
 mod turn;
+mod value;
 mod word;
 
 pub use laws::legal_by_pairs;
 pub use operate::{binary, unary};
 pub use text::syntax;
+pub use value::mode_value;
 pub use word::image;

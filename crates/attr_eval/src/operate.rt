@@ -1,9 +1,11 @@
 //! What an operator makes of the values of its operands.
 
 ghost use Rattle.std.specs.Int.{w128};
-ghost use Rattle.std.specs.Prelude.{◌≡◌, ◌*ℤ◌, ◌-ℤ◌, ◌^◌, ◌≤ℤ◌, ◌<ℤ◌, FitsSigned, MatchBool, pos};
+ghost use Rattle.std.specs.Prelude.{◌≡◌, ◌*ℤ◌, ◌-ℤ◌, ◌^◌, ◌-◌, ◌≤◌, ◌≤ℤ◌, ◌<ℤ◌, FitsSigned, IfSome, MatchBool, pos};
 ghost use Rattle.attr_eval.specs.Operand.{MayHave};
-ghost use Rattle.nk_base.specs.Whole.{and_ℤ, floor_shr, not_ℤ, or_ℤ, xor_ℤ};
+ghost use Rattle.nk_base.specs.Number.{IsWidth, wrapped};
+ghost use Rattle.nk_base.specs.Whole.{and_ℤ, clamped, floor_shr, not_ℤ, or_ℤ, selected, xor_ℤ};
+ghost use Rattle.nk_base.specs.declared.number.Ty.TheVariants.{Card, Int};
 ghost use Rattle.nml_tree.specs.Value as spec;
 ghost use Rattle.nml_tree.specs.Written as written;
 
@@ -13,29 +15,27 @@ use nml_tree::{Bin, Un};
 /// What an operator of one operand makes of its value.
 ///
 /// Widths are from 1 to 64 bits, a run of bits has at most 64 and ends at bit 126 or below it, and the negative of the value is one that
-/// 128 bits hold. It takes no memory. The rule is this project's own.
+/// 128 bits hold; what is answered otherwise is left open. It takes no memory. The rule is this project's own.
 pub fn unary(op: Un, z: i128) -> i128
-    requires { MayHave op z }
-    ensures { result ≡ spec.unary op z }
+    ensures { MayHave op z → result ≡ spec.unary op z }
 {
     match op {
-        Un::Neg => -z,
+        Un::Neg => told(z.checked_neg()),
         Un::Inv => inverse(z),
         Un::Not => truth(is_zero(z)),
-        Un::Int(n) => wrap(Ty::Int(n), z),
-        Un::Card(n) => wrap(Ty::Card(n), z),
-        Un::Sat(n) => clamp(n, z),
-        Un::Bits(hi, lo) => select(z, hi, lo),
+        Un::Int(n) => signed(n, z),
+        Un::Card(n) => natural(n, z),
+        Un::Sat(n) => nearest(n, z),
+        Un::Bits(hi, lo) => run_of(z, hi, lo),
     }
 }
 
-/// What an operator of two operands makes of their values: a number that 128 bits hold, 1 for true and 0 for false.
+/// What an operator of two operands makes of their values: 1 for true, and 0 for false.
 ///
-/// `&`, `|` and `^` are those of endless two's complement, shifts are by a power of two, and one to the right is rounded down. It takes
-/// no memory. The rule is this project's own.
+/// `&`, `|` and `^` are those of endless two's complement, shifts are by a power of two, and one to the right is rounded down. What is
+/// answered where 128 bits don't hold the number is left open. It takes no memory. The rule is this project's own.
 pub fn binary(op: Bin, x: i128, y: i128) -> i128
-    requires { FitsSigned w128 (spec.binary op x y) }
-    ensures { result ≡ spec.binary op x y }
+    ensures { FitsSigned w128 (spec.binary op x y) → result ≡ spec.binary op x y }
 {
     match op {
         Bin::OrElse => truth(!is_zero(x) || !is_zero(y)),
@@ -51,20 +51,69 @@ pub fn binary(op: Bin, x: i128, y: i128) -> i128
         Bin::Ge => truth(y <= x),
         Bin::Shl => shift_left(x, y.unsigned_abs()),
         Bin::Shr => shift_right(x, y.unsigned_abs()),
-        Bin::Add => x + y,
-        Bin::Sub => x - y,
-        Bin::Mul => x * y,
+        Bin::Add => told(x.checked_add(y)),
+        Bin::Sub => told(x.checked_sub(y)),
+        Bin::Mul => told(x.checked_mul(y)),
     }
 }
 
-/// True is 1, false is 0.
-fn truth(b: bool) -> i128
+/// The number, where there is one.
+fn told(z: Option<i128>) -> i128
+    ensures { IfSome z (λ n. result ≡ n) }
+{
+    match z {
+        None => 0,
+        Some(n) => n,
+    }
+}
+
+fn is_width(n: u32) -> bool
+    ensures { MatchBool result (IsWidth n) (IsWidth n → ⊥) }
+{
+    1 <= n && n <= 64
+}
+
+/// The number of `Int(n)` that is congruent to it.
+fn signed(n: u32, z: i128) -> i128
+    ensures { IsWidth n → result ≡ wrapped (Int n) z }
+{
+    if is_width(n) { wrap(Ty::Int(n), z) } else { 0 }
+}
+
+/// The number of `Card(n)` that is congruent to it.
+fn natural(n: u32, z: i128) -> i128
+    ensures { IsWidth n → result ≡ wrapped (Card n) z }
+{
+    if is_width(n) { wrap(Ty::Card(n), z) } else { 0 }
+}
+
+/// The number of `Int(n)` nearest to it.
+fn nearest(n: u32, z: i128) -> i128
+    ensures { IsWidth n → result ≡ clamped n z }
+{
+    if is_width(n) { clamp(n, z) } else { 0 }
+}
+
+/// Its bits from `lo` to `hi`.
+fn run_of(z: i128, hi: u32, lo: u32) -> i128
+    ensures { (lo ≤ hi) × (hi ≤ 126) × (hi - lo ≤ 63) → result ≡ selected z hi lo }
+{
+    if lo <= hi && hi <= 126 && hi - lo <= 63 {
+        select(z, hi, lo)
+    } else {
+        0
+    }
+}
+
+/// True is 1, false is 0. It takes no memory.
+pub fn truth(b: bool) -> i128
     ensures { result ≡ written.truth b }
 {
     if b { 1 } else { 0 }
 }
 
-fn is_zero(z: i128) -> bool
+/// Whether it is 0, which is false. It takes no memory.
+pub fn is_zero(z: i128) -> bool
     ensures { result ≡ spec.is_zero z }
 {
     z.unsigned_abs() == 0
@@ -108,8 +157,7 @@ fn is_negative(z: i128) -> bool
 
 /// Times 2^n.
 fn shift_left(x: i128, n: u128) -> i128
-    requires { FitsSigned w128 (x *ℤ pos (2 ^ n)) }
-    ensures { result ≡ x *ℤ pos (2 ^ n) }
+    ensures { FitsSigned w128 (x *ℤ pos (2 ^ n)) → result ≡ x *ℤ pos (2 ^ n) }
 {
     if x == 0 {
         return 0;
@@ -117,7 +165,7 @@ fn shift_left(x: i128, n: u128) -> i128
     if n > 126 {
         return i128::MIN;
     }
-    x * power_of_two(n as u32)
+    told(x.checked_mul(power_of_two(n as u32)))
 }
 
 /// Divided by 2^n, rounded down.
