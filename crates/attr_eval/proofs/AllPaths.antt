@@ -1,10 +1,10 @@
 -- Every path is legal exactly where no two events that meet clash.
 use Rattle.std.proofs.Common.{List, [], ◌∷◌, ◌++◌, map, ◌≡◌, refl, sym, ◌∙◌, ap, subst, Bool, true, false, inl, inr}
-use Rattle.std.specs.Prelude.{◌&&◌, ◌||◌, ◌⊎◌, not, flat_map}
+use Rattle.std.specs.Prelude.{◌&&◌, ◌||◌, ◌⊎◌, not}
 use Rattle.std.specs.List.{list_all, list_any}
 use Rattle.nml_tree.specs.Act.{Term, Act, Number, Field, Cell, Trn, Inp, Out, Unary, Binary, Choose, Done, SetCell, SetTrn, Put, Halt, When}
 use Rattle.nml_tree.specs.Derivation.{Derivation}
-use Rattle.nml_tree.specs.Legal.{Event, WritesCell, WritesTrn, Puts, Halts, Reads, both, clash, does, ways, paths, is_legal_path, is_legal, fields_alone}
+use Rattle.nml_tree.specs.Legal.{Event, both, clash, ways, paths, is_legal_path, is_legal, fields_alone}
 use Rattle.nml_tree.specs.Table.{Table}
 use Rattle.nml_tree.specs.Value.{View}
 use Rattle.nml_tree.specs.Written.{action}

@@ -1,6 +1,5 @@
 -- In a typed description 128 bits hold the value of each mode, whatever the fields.
 use Rattle.std.proofs.Common.{◌≡◌, ℕ, zero, suc, ◌-◌, ◌^◌, ◌<◌, ℤ, pos, List, [], refl, sym, subst, arith}
-use Rattle.std.specs.Prelude.{codes}
 use Rattle.std.proofs.lemmas.Int.{ints}
 use Rattle.std.proofs.Math.Pow.{pow_pos}
 use Rattle.nk_base.specs.declared.number.Ty.{Ty}
@@ -8,9 +7,9 @@ use Rattle.nk_base.specs.declared.number.Ty.TheVariants as tys
 use Rattle.nk_base.specs.Number.{InRange}
 use Rattle.nml_tree.specs.declared.tree.Desc.{Desc}
 use Rattle.nml_tree.specs.Refused.{IsFreeBelow}
-use Rattle.nml_tree.specs.Table.{Text, Declared, declared, table}
+use Rattle.nml_tree.specs.Table.{Declared, table}
 use Rattle.nml_tree.specs.Value.{cell, number_at}
-use Rattle.nml_widths.specs.Fitting.{AreOfTypes, IsOfType}
+use Rattle.nml_widths.specs.Fitting.{IsOfType}
 use Rattle.nml_widths.proofs.WidthLaws.{action_sound}
 use Rattle.attr_eval.specs.Alone.{Alone, ValuesSound, alone}
 

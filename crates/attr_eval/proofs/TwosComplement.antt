@@ -1,9 +1,8 @@
 -- The operators on 128 bits are those on endless two's complement.
-use Rattle.std.proofs.Common.{◌≡◌, ℕ, zero, suc, ◌-◌, ◌*◌, ◌^◌, ◌<◌, ◌/◌, ◌%◌, ℤ, pos, negsuc, refl, ap, sym, ◌∙◌, arith, to_z, of_z, FitsSigned}
+use Rattle.std.proofs.Common.{◌≡◌, ℕ, zero, suc, ◌-◌, ◌^◌, ◌<◌, ◌/◌, ◌%◌, ℤ, pos, negsuc, refl, ap, sym, ◌∙◌, arith, to_z, of_z, FitsSigned}
 use Rattle.std.specs.Int.{w128}
 use Rattle.std.specs.Int.Bits.{bit_and, bit_or, bit_xor, and_step, and_comm, and_le_l, and_le_r, or_lt, xor_lt, or_add_and, xor_add_and}
 use Rattle.std.proofs.lemmas.Int.{to_z-of_z, to_z_pos}
-use Rattle.std.proofs.Math.Pow.{pow-lt}
 use Rattle.nk_base.specs.Whole.{and_ℤ, or_ℤ, xor_ℤ}
 
 -- the bits of a where those of b are turned

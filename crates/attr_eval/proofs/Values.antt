@@ -1,7 +1,7 @@
 -- A value by the nodes of its expression, and by a name.
 use Rattle.std.proofs.Common.{ℕ, zero, suc, ◌+◌, ◌-◌, ◌*◌, ◌≤◌, ◌<◌, max, List, [], ◌∷◌, ◌++◌, ◌≡◌, ℤ, length, drop, arith, refl, sym, ◌∙◌, ap, subst, Some, None, Option, Bool, true, false, cond, suc-mul, append_assoc, FitsSigned}
 use Rattle.std.specs.Int.{w128}
-use Rattle.std.specs.Prelude.{slice_get, unwrap_or, option_and_then, int_le, unsigned_abs, ◌-ℤ◌, pos, negsuc, ◌&&◌, nat_le, if◌then◌else◌, not}
+use Rattle.std.specs.Prelude.{slice_get, unwrap_or, option_and_then, int_le, unsigned_abs, ◌-ℤ◌, pos, negsuc, ◌&&◌, nat_le, if◌then◌else◌}
 use Rattle.std.specs.Map.{lookup}
 use Rattle.std.proofs.lemmas.Bool.{leb-true}
 use Rattle.nk_base.specs.Text.{text_eq}
@@ -13,20 +13,18 @@ use Rattle.nml_tree.specs.declared.tree.Size.{Size}
 use Rattle.nml_tree.specs.declared.tree.Par.{Par}
 use Rattle.nml_tree.specs.declared.operator.Bin.{Bin}
 use Rattle.nml_tree.specs.declared.operator.Un.TheVariants as Un
-use Rattle.nml_tree.specs.Depth.{depth}
 use Rattle.nml_tree.specs.Formula as formula
 use Rattle.nml_tree.specs.Formula.{Formula, Prefix, Fit}
 use Rattle.nml_tree.specs.Act.{Term}
 use Rattle.nml_tree.specs.Table.{Text, Table, Rule, Declared, declared, natural, size_number, size_or_none}
-use Rattle.nml_tree.specs.Derivation.{Derivation, Arguments, Pick, Compose, NoMore, Part, Field, IsDerivation, Fill, fields, fields_of}
+use Rattle.nml_tree.specs.Derivation.{Derivation, Arguments, Compose, NoMore, Part, Field, IsDerivation, Fill, fields, fields_of}
 use Rattle.nml_tree.specs.Value.{value, unary, binary, is_zero, is_true, number_at}
 use Rattle.nml_tree.specs.Worth.{Worth, Untold, rule_scope, as_number, unknown, number, of_run, of_bits, are_bits, of_ty, is_type}
 use Rattle.nml_tree.specs.Written as written
 use Rattle.nml_tree.specs.Written.{Argument, arguments, term, named, source, prefix}
 use Rattle.nml_widths.specs.Fitting.{EachValue, Everywhere, Sound, StandAt, Within}
-use Rattle.attr_eval.specs.Alone.{alone, Alone, ValuesSound, value_depth, deepest}
+use Rattle.attr_eval.specs.Alone.{alone, Alone, value_depth, deepest}
 use Rattle.attr_eval.specs.Found.{Other, IsFirst}
-use Rattle.attr_eval.specs.Operand.{MayHave}
 use Rattle.attr_eval.specs.Walks.{Walks, WalksAll, from}
 
 -- a mode's value is no deeper than the deepest

@@ -3,7 +3,7 @@ use Rattle.std.specs.Prelude.{ℕ, ◌≡◌, max, ℤ, List, [], ◌∷◌, dro
 use Rattle.nml_tree.specs.Formula.{Formula}
 use Rattle.nml_tree.specs.Depth.{depth}
 use Rattle.nml_tree.specs.Table.{Text, Table, Rule, Declared}
-use Rattle.nml_tree.specs.Derivation.{Derivation, Arguments, Compose, IsDerivation, fields_of}
+use Rattle.nml_tree.specs.Derivation.{Arguments, Compose, IsDerivation, fields_of}
 use Rattle.nml_tree.specs.Value.{View}
 use Rattle.nml_tree.specs.Worth.{rule_scope}
 use Rattle.nml_tree.specs.Written.{arguments}

@@ -1,6 +1,6 @@
 -- Legality with no list of paths: what happens on the two sides of an `if` doesn't meet, and all else does.
-use Rattle.std.specs.Prelude.{ℕ, Bool, true, not, ◌&&◌, List, [], ◌∷◌, ◌++◌}
-use Rattle.nml_tree.specs.Act.{Term, Act, Number, Field, Cell, Trn, Inp, Out, Unary, Binary, Choose, Done, SetCell, SetTrn, Put, Halt, When}
+use Rattle.std.specs.Prelude.{Bool, true, not, ◌&&◌, List, [], ◌∷◌, ◌++◌}
+use Rattle.nml_tree.specs.Act.{Term, Act, Cell, Inp, Unary, Binary, Choose, Done, SetCell, SetTrn, Put, Halt, When}
 use Rattle.nml_tree.specs.Legal.{Event, WritesCell, WritesTrn, Puts, Halts, Reads, both, clash}
 use Rattle.nml_tree.specs.Value.{View}
 

@@ -3,7 +3,6 @@ use Rattle.std.specs.Prelude.{ℕ, ◌≡◌, ◌<◌}
 use Rattle.nml_tree.specs.Formula as formula
 use Rattle.nml_tree.specs.Formula.{Formula, Prefix, Fit}
 use Rattle.nml_tree.specs.Depth.{depth}
-use Rattle.nml_tree.specs.declared.tree.Size.{Size}
 use Rattle.nml_tree.specs.Formula.{formula}
 use Rattle.attr_eval.specs.declared.shape.Node.{Node}
 use Rattle.attr_eval.specs.declared.shape.Node.TheVariants as node

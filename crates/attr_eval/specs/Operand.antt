@@ -1,5 +1,5 @@
 -- What an operator may be given so that 128 bits hold what it makes.
-use Rattle.std.specs.Prelude.{ℕ, ◌-◌, ◌≤◌, ℤ, FitsSigned}
+use Rattle.std.specs.Prelude.{◌-◌, ◌≤◌, ℤ, FitsSigned}
 use Rattle.std.specs.Int.{w128}
 use Rattle.nk_base.specs.Number.{IsWidth}
 use Rattle.nml_tree.specs.declared.operator.Un.{Un}

@@ -1,5 +1,5 @@
-use Rattle.std.proofs.Common.{rules, ◌≡◌, ◌∙◌, ◌<◌, ◌≤◌, ◌+◌, ◌*◌, [], ◌++◌, sym, ap, subst, length, arith, true, false, to_z, of_z, refl}
-use Rattle.std.specs.Prelude.{FitsSigned, ℤ, option_map}
+use Rattle.std.proofs.Common.{rules, ◌≡◌, ◌∙◌, ◌<◌, ◌≤◌, ◌+◌, ◌*◌, [], ◌++◌, sym, ap, subst, length, arith, true, false, to_z, of_z}
+use Rattle.std.specs.Prelude.{FitsSigned, option_map}
 use Rattle.std.specs.Int.{w128}
 use Rattle.std.proofs.lemmas.Int.{to_z-of_z}
 use Rattle.nml_tree.specs.Depth.{depth}
@@ -7,7 +7,7 @@ use Rattle.nml_tree.specs.Derivation.{fields_of}
 use Rattle.nml_tree.specs.Formula.{formula}
 use Rattle.nml_tree.specs.Table.{entries}
 use Rattle.nml_tree.specs.Value as spec
-use Rattle.nml_tree.specs.Written.{arguments, written}
+use Rattle.nml_tree.specs.Written.{written}
 use Rattle.attr_eval.specs.Alone.{alone, deepest, value_depth}
 use Rattle.attr_eval.specs.Turn.{made_rule}
 use Rattle.attr_eval.proofs.Steps.{no_limit, next_picked, next_made, walks_at, field_at}

@@ -1,13 +1,10 @@
-use Rattle.std.proofs.Common.{◌≡◌, ◌∙◌, [], rules, subst, of_z, to_z, arith}
+use Rattle.std.proofs.Common.{◌∙◌, [], rules, arith}
 use Rattle.std.specs.Prelude.{FitsSigned}
 use Rattle.std.specs.Int.{w128}
 use Rattle.std.proofs.lemmas.Int.{to_z-of_z}
 use Rattle.nml_tree.specs.Table.{table}
 use Rattle.nml_tree.specs.Refused.{IsTyped}
-use Rattle.nml_tree.specs.Value as spec
 use Rattle.nml_tree.specs.Walk.{IsWalkOf}
-use Rattle.nml_tree.specs.Written.{written}
-use Rattle.attr_eval.specs.Alone.{alone}
 use Rattle.attr_eval.proofs.AloneLaws.{alone_whole}
 use Rattle.attr_eval.proofs.Whole.{walks_named}
 use Rattle.attr_eval.proofs.value.mode_value.Goals as goal
