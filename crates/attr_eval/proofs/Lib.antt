@@ -4,3 +4,8 @@ pub mod Pieces
 pub mod Images
 pub mod Whole
 pub mod Syntaxes
+pub mod TwosComplement
+pub mod Shifts
+pub mod AllPaths
+pub mod Values
+pub mod AloneLaws

@@ -45,9 +45,9 @@ pub narrow_image : (d : Desc) → IsTyped d → (x : Derivation) → IsRoot (tab
 narrow_image d typed x is =
     elim (le_or_lt (length (image x)) 64) [ inl low ↦ low | inr high ↦ absurd (typed 9 (omega arith) (By_word (codes "instruction") (WordFault.Wide x refl is high))) ]
 
-pub walks_whole : (d : Desc) → IsTyped d → (x : Derivation) (ps : List ℕ) (zs : List ℤ) → IsWalkOf (table d) (codes "instruction") ps zs x → Walks (entries [] d.items) (codes "instruction") (length d.items) x ps zs [] []
-walks_whole d typed x ps zs w =
-    let low = height_within (table d) (λ r f. typed 5 (omega arith) (By_cycle r f)) (codes "instruction") x w.derivation in
+pub walks_named : (d : Desc) → IsTyped d → (name : Text) (x : Derivation) (ps : List ℕ) (zs : List ℤ) → IsWalkOf (table d) name ps zs x → Walks (entries [] d.items) name (length d.items) x ps zs [] []
+walks_named d typed name x ps zs w =
+    let low = height_within (table d) (λ r f. typed 5 (omega arith) (By_cycle r f)) name x w.derivation in
     record {
       right = rules_right d (λ k less. typed k (omega (arith, less)));
       is = w.derivation;
@@ -55,3 +55,6 @@ walks_whole d typed x ps zs w =
       picks_are = sym w.picks ∙ sym (append-nil (picks x));
       fields_are = sym w.fields ∙ sym (append-nil (fields x));
     }
+
+pub walks_whole : (d : Desc) → IsTyped d → (x : Derivation) (ps : List ℕ) (zs : List ℤ) → IsWalkOf (table d) (codes "instruction") ps zs x → Walks (entries [] d.items) (codes "instruction") (length d.items) x ps zs [] []
+walks_whole d typed x ps zs w = walks_named d typed (codes "instruction") x ps zs w
