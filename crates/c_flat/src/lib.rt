@@ -1,8 +1,12 @@
 //! A program with its names resolved, as nodes in one list, each behind those that it is made of.
 #![tactic(auto)]
 
+mod chain;
+mod expression;
 mod make;
 mod node;
 
+pub use chain::{Chain, push_list};
+pub use expression::{push_expression, push_further};
 pub use make::{called_node, element_node, scalar_node};
 pub use node::{Node, push_node};

@@ -1,0 +1,40 @@
+-- Nodes one behind the other, and the node of an expression over its two parts.
+use Rattle.std.specs.Prelude.{◌≡◌, ℕ, List, [], ◌∷◌, length, map}
+use Rattle.c_tree.specs.Program.{Term}
+use Rattle.c_tree.specs.Program as program
+use Rattle.c_tree.specs.Formula.{Formula, Binary}
+use Rattle.c_tree.specs.Formula as formula
+use Rattle.c_tree.specs.Resolve.{unary, binary}
+use Rattle.c_tree.specs.Resolve as resolve
+use Rattle.c_flat.specs.declared.node.Node.{Node}
+use Rattle.c_flat.specs.declared.chain.Chain.{Chain}
+use Rattle.c_flat.specs.declared.chain.Chain.TheVariants as chain
+use Rattle.c_flat.specs.Written.{Written, OfTerm, OfTerms, OfCommand, as_term, as_terms, as_command, written, AreBelow, Falls, Extends}
+
+-- the end of arguments, or of commands
+abbrev pub end_of : Chain → Written
+end_of chain.Arguments = OfTerms program.NoMore
+end_of chain.Commands = OfCommand program.Skip
+
+-- one before the others
+abbrev pub link : Chain → Written → Written → Written
+link chain.Arguments x w = OfTerms (program.More (as_term x) (as_terms w))
+link chain.Commands x w = OfCommand (program.Seq (as_command x) (as_command w))
+
+-- several before the others
+abbrev pub ahead : Chain → List Written → Written → Written
+ahead c [] w = w
+ahead c (x ∷ xs) w = link c x (ahead c xs w)
+
+-- Nodes of these numbers stand, and with what is left behind them they are the whole; the old nodes are as before.
+pub record Listed (c : Chain) (old nodes : List Node) (ks : List ℕ) (left whole : Written) : Type 0 where
+  pub extends : Extends old nodes
+  pub falls : Falls nodes
+  pub within : AreBelow ks (length nodes)
+  pub is : ahead c (map (written nodes) ks) left ≡ whole
+
+-- an expression over what its one or two parts are
+abbrev pub over : Formula → Term → Term → Term
+over (Binary op x at y) s t = binary op s t (resolve.written y)
+over (formula.Unary op at x) s t = unary op s
+over _ s t = program.Number 0
