@@ -5,8 +5,10 @@ mod chain;
 mod expression;
 mod make;
 mod node;
+mod simple;
 
 pub use chain::{Chain, push_list};
 pub use expression::{push_expression, push_further};
 pub use make::{called_node, element_node, scalar_node};
 pub use node::{Node, push_node};
+pub use simple::push_simple;
