@@ -1,5 +1,5 @@
 -- Nodes one behind the other, and the node of an expression over its two parts.
-use Rattle.std.specs.Prelude.{◌≡◌, ℕ, List, [], ◌∷◌, length, map}
+use Rattle.std.specs.Prelude.{◌≡◌, ℕ, List, [], ◌∷◌, length, map, ◌<◌, Option, None, Some, option_map}
 use Rattle.c_tree.specs.Program.{Term}
 use Rattle.c_tree.specs.Program as program
 use Rattle.c_tree.specs.Formula.{Formula, Binary}
@@ -38,3 +38,19 @@ abbrev pub over : Formula → Term → Term → Term
 over (Binary op x at y) s t = binary op s t (resolve.written y)
 over (formula.Unary op at x) s t = unary op s
 over _ s t = program.Number 0
+
+-- where a `for` has a condition, what its node writes out
+abbrev pub condition_of : (ℕ → Written) → Option ℕ → Option Term
+condition_of f = option_map (λ i. as_term (f i))
+
+-- the node of a condition stands before this number, where there is one
+abbrev pub IsWithin : Option ℕ → ℕ → Type 0
+IsWithin None n = Unit {0}
+IsWithin (Some i) n = i < n
+
+-- The node of a condition stands, where there is one; the old nodes are as before, and each names earlier ones.
+pub record Conditioned (old new : List Node) (t : Option Term) (condition : Option ℕ) : Type 0 where
+  pub extends : Extends old new
+  pub falls : Falls new
+  pub within : IsWithin condition (length new)
+  pub is : condition_of (written new) condition ≡ t

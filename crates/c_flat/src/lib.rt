@@ -2,12 +2,14 @@
 #![tactic(auto)]
 
 mod chain;
+mod declaration;
 mod expression;
 mod make;
 mod node;
 mod simple;
 
 pub use chain::{Chain, push_list};
+pub use declaration::{push_first, push_locals};
 pub use expression::{push_expression, push_further};
 pub use make::{called_node, element_node, scalar_node};
 pub use node::{Node, push_node};
