@@ -2,6 +2,7 @@
 #![tactic(auto)]
 
 mod chain;
+mod command;
 mod declaration;
 mod expression;
 mod make;
@@ -9,6 +10,7 @@ mod node;
 mod simple;
 
 pub use chain::{Chain, push_list};
+pub use command::push_block;
 pub use declaration::{push_first, push_locals};
 pub use expression::{push_expression, push_further};
 pub use make::{called_node, element_node, scalar_node};
