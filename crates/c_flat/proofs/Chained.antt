@@ -27,19 +27,19 @@ ahead_snoc : (c : Chain) (xs : List Written) (x w : Written) → ahead c (xs ++ 
 ahead_snoc c [] x w = refl
 ahead_snoc c (y ∷ ys) x w = ap (link c y) (ahead_snoc c ys x w)
 
-map_snoc : (f : ℕ → Written) (ks : List ℕ) (k : ℕ) → map f (ks ++ k ∷ []) ≡ map f ks ++ f k ∷ []
+pub map_snoc : (f : ℕ → Written) (ks : List ℕ) (k : ℕ) → map f (ks ++ k ∷ []) ≡ map f ks ++ f k ∷ []
 map_snoc f [] k = refl
 map_snoc f (j ∷ ks) k = ap (λ ws. f j ∷ ws) (map_snoc f ks k)
 
-map_same : (f g : ℕ → Written) (ks : List ℕ) (n : ℕ) → AreBelow ks n → ((i : ℕ) → i < n → f i ≡ g i) → map f ks ≡ map g ks
+pub map_same : (f g : ℕ → Written) (ks : List ℕ) (n : ℕ) → AreBelow ks n → ((i : ℕ) → i < n → f i ≡ g i) → map f ks ≡ map g ks
 map_same f g [] n b same = refl
 map_same f g (k ∷ ks) n b same = rw (same k b.0, map_same f g ks n b.1 same) refl
 
-below_later : (ks : List ℕ) (n m : ℕ) → AreBelow ks n → n ≤ m → AreBelow ks m
+pub below_later : (ks : List ℕ) (n m : ℕ) → AreBelow ks n → n ≤ m → AreBelow ks m
 below_later [] n m b le = tt
 below_later (k ∷ ks) n m b le = (omega (arith, b.0), below_later ks n m b.1 le)
 
-below_snoc : (ks : List ℕ) (k n : ℕ) → AreBelow ks n → k < n → AreBelow (ks ++ k ∷ []) n
+pub below_snoc : (ks : List ℕ) (k n : ℕ) → AreBelow ks n → k < n → AreBelow (ks ++ k ∷ []) n
 below_snoc [] k n b h = (h, tt)
 below_snoc (j ∷ ks) k n b h = (b.0, below_snoc ks k n b.1 h)
 

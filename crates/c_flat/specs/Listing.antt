@@ -1,10 +1,12 @@
 -- Nodes one behind the other, and the node of an expression over its two parts.
-use Rattle.std.specs.Prelude.{◌≡◌, ℕ, List, [], ◌∷◌, length, map, ◌<◌, Option, None, Some, option_map}
-use Rattle.c_tree.specs.Program.{Term}
+use Rattle.std.specs.Prelude.{◌≡◌, ℕ, List, [], ◌∷◌, ◌++◌, length, map, ◌<◌, Option, None, Some, option_map}
+use Rattle.c_tree.specs.Items.{Item}
+use Rattle.c_tree.specs.Names.{first_names}
+use Rattle.c_tree.specs.Program.{Term, Function}
 use Rattle.c_tree.specs.Program as program
 use Rattle.c_tree.specs.Formula.{Formula, Binary}
 use Rattle.c_tree.specs.Formula as formula
-use Rattle.c_tree.specs.Resolve.{unary, binary}
+use Rattle.c_tree.specs.Resolve.{unary, binary, resolved_functions}
 use Rattle.c_tree.specs.Resolve as resolve
 use Rattle.c_flat.specs.declared.node.Node.{Node}
 use Rattle.c_flat.specs.declared.chain.Chain.{Chain}
@@ -54,3 +56,18 @@ pub record Conditioned (old new : List Node) (t : Option Term) (condition : Opti
   pub falls : Falls new
   pub within : IsWithin condition (length new)
   pub is : condition_of (written new) condition ≡ t
+
+-- what the bodies of functions are
+abbrev pub written_bodies : List Function → List Written
+written_bodies = map (λ f. OfCommand f.body)
+
+-- what the bodies of a program's functions are, in the text's order
+abbrev pub bodies_of : List Item → List Written
+bodies_of gs = written_bodies (resolved_functions (first_names gs) gs)
+
+-- Nodes of these numbers stand, and what they write out is the front of the whole, with this left; the old nodes are as before.
+pub record Standing (old nodes : List Node) (ks : List ℕ) (left whole : List Written) : Type 0 where
+  pub extends : Extends old nodes
+  pub falls : Falls nodes
+  pub within : AreBelow ks (length nodes)
+  pub are : map (written nodes) ks ++ left ≡ whole

@@ -1,6 +1,7 @@
 //! A program with its names resolved, as nodes in one list, each behind those that it is made of.
 #![tactic(auto)]
 
+mod bodies;
 mod chain;
 mod command;
 mod declaration;
@@ -10,6 +11,7 @@ mod make;
 mod node;
 mod simple;
 
+pub use bodies::push_bodies;
 pub use chain::{Chain, push_list};
 pub use command::push_block;
 pub use declaration::{push_first, push_locals};
