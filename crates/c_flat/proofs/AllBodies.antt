@@ -1,5 +1,5 @@
 -- The bodies of a program's functions, one after the other.
-use Rattle.std.proofs.Common.{◌≡◌, ℕ, ◌<◌, ◌≤◌, ◌+◌, List, [], ◌∷◌, ◌++◌, length, map, drop, get_or, ap, sym, ◌∙◌, refl, append_assoc, append-nil}
+use Rattle.std.proofs.Common.{◌≡◌, ℕ, ◌<◌, ◌≤◌, ◌+◌, List, [], ◌∷◌, ◌++◌, length, map, drop, get_or, ap, sym, ◌∙◌, refl, append_assoc}
 use Rattle.c_tree.specs.declared.program.Global.{Global}
 use Rattle.c_tree.specs.declared.program.Global.TheVariants as global
 use Rattle.c_tree.specs.declared.program.Vars.{Vars}

@@ -6,8 +6,7 @@ use Rattle.std.specs.declared.result.Result.TheVariants.{Ok, Err}
 use Rattle.c_tree.specs.Program.{Term, Terms}
 use Rattle.c_flat.specs.declared.node.Node.{Node}
 use Rattle.c_flat.specs.declared.chain.Chain.{Chain}
-use Rattle.c_flat.specs.declared.chain.Chain.TheVariants as chain
-use Rattle.c_flat.specs.Written.{Written, OfTerm, OfTerms, one, written, AreBelow, Falls, Extends, Grew}
+use Rattle.c_flat.specs.Written.{Written, OfTerm, OfTerms, one, written, AreBelow, Falls, Grew}
 use Rattle.c_flat.specs.Listing.{end_of, link, ahead, Listed}
 use Rattle.c_flat.proofs.Grown.{Extends-refl, Extends-trans, grew_over, grew_both}
 

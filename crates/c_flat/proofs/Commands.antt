@@ -1,5 +1,5 @@
 -- The commands of declarations and statements, over those of their parts.
-use Rattle.std.proofs.Common.{◌≡◌, ℕ, ◌<◌, ◌≤◌, ◌+◌, List, [], ◌∷◌, length, map, drop, get_or, ap, sym, ◌∙◌, refl, Option, Some, None, subst}
+use Rattle.std.proofs.Common.{◌≡◌, ℕ, ◌<◌, ◌≤◌, ◌+◌, List, length, drop, get_or, ap, sym, ◌∙◌, refl, Option, Some, None, subst}
 use Rattle.std.specs.Result.{IfOk}
 use Rattle.std.specs.declared.result.Result.{Result}
 use Rattle.c_tree.specs.declared.statement.LVar.{LVar}
@@ -15,7 +15,7 @@ use Rattle.c_tree.specs.Resolve as resolve
 use Rattle.c_check.specs.Walk.{listed, behind_body}
 use Rattle.c_flat.specs.declared.node.Node.{Node}
 use Rattle.c_flat.specs.declared.chain.Chain.TheVariants as chain
-use Rattle.c_flat.specs.Written.{Written, OfTerm, OfCommand, as_term, as_command, one, written, Grew, Extends}
+use Rattle.c_flat.specs.Written.{Written, OfCommand, as_term, as_command, one, written, Grew, Extends}
 use Rattle.c_flat.specs.Listing.{link, Conditioned, IsWithin, condition_of}
 use Rattle.c_flat.proofs.Grown.{first_below, Extends-trans}
 use Rattle.c_flat.proofs.Chained.{drop_step, drop_end, ok_more, grew_on, still}

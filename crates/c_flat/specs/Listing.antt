@@ -11,7 +11,7 @@ use Rattle.c_tree.specs.Resolve as resolve
 use Rattle.c_flat.specs.declared.node.Node.{Node}
 use Rattle.c_flat.specs.declared.chain.Chain.{Chain}
 use Rattle.c_flat.specs.declared.chain.Chain.TheVariants as chain
-use Rattle.c_flat.specs.Written.{Written, OfTerm, OfTerms, OfCommand, as_term, as_terms, as_command, written, AreBelow, Falls, Extends}
+use Rattle.c_flat.specs.Written.{Written, OfTerms, OfCommand, as_term, as_terms, as_command, written, AreBelow, Falls, Extends}
 
 -- the end of arguments, or of commands
 abbrev pub end_of : Chain → Written

@@ -1,5 +1,5 @@
-use Rattle.std.proofs.Common.{sym, ◌∙◌, ◌≡◌, subst, arith}
-use Rattle.c_flat.proofs.Chained.{Chained, last_below, chained_more}
+use Rattle.std.proofs.Common.{arith}
+use Rattle.c_flat.proofs.Chained.{last_below, chained_more}
 use Rattle.c_flat.proofs.chain.push_list.Goals as goal
 
 pub loop-first-preserved : goal.loop-first-preserved

@@ -1,6 +1,5 @@
 use Rattle.c_tree.specs.Statement.{variable}
 use Rattle.c_tree.specs.Names.{behind_variable, behind_variables}
-use Rattle.c_tree.specs.Resolve as resolve
 use Rattle.std.proofs.Common.{refl}
 use Rattle.c_names.specs.Shown.{names}
 use Rattle.c_check.specs.Walk.{listed}

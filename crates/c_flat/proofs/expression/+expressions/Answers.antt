@@ -1,12 +1,12 @@
-use Rattle.std.proofs.Common.{rules, map, refl, ap, sym, ◌∙◌, ◌≡◌}
+use Rattle.std.proofs.Common.{rules, map, ◌≡◌}
 use Rattle.c_tree.specs.Formula.{formula, further}
-use Rattle.c_tree.specs.Program.{Term, Terms, NoMore, More}
-use Rattle.c_tree.specs.Resolve.{term, terms, called, element}
+use Rattle.c_tree.specs.Program.{More}
+use Rattle.c_tree.specs.Resolve.{term, terms, called}
 use Rattle.c_tree.specs.Names.{callee}
 use Rattle.c_tree.proofs.FormulaLaws.{formula_laws, formula-Call_with}
 use Rattle.c_names.specs.Shown.{names}
 use Rattle.c_flat.specs.declared.chain.Chain.TheVariants as chain
-use Rattle.c_flat.specs.Written.{OfTerm, OfTerms}
+use Rattle.c_flat.specs.Written.{OfTerm}
 use Rattle.c_flat.specs.Listing.{over}
 use Rattle.c_flat.proofs.Chained.{over_ok, both_ok, called_ok, listed_ok, listed_more}
 use Rattle.c_flat.proofs.Terms.{further_step, further_end}
