@@ -1,0 +1,8 @@
+use Rattle.std.proofs.Common.{◌≡◌, drop}
+use Rattle.c_tree.specs.Names.{behind_gvars}
+use Rattle.c_names.specs.Shown.{names}
+use Rattle.c_check.specs.Walk.{further_gvars}
+use Rattle.c_flat.proofs.bodies.declare_others.Given as goal
+
+abbrev pub invariant-loop-one : goal.invariant-loop-one
+invariant-loop-one l = behind_gvars (names l.scopes) (further_gvars (drop l.one-index l.rest)) ≡ behind_gvars (names l.initial.scopes) (further_gvars l.rest)
