@@ -13,7 +13,7 @@ use Rattle.c_tree.specs.Formula.{Formula, Numeral, Named, Indexed, Called, Calle
 use Rattle.c_tree.specs.Statement.{Declaration, Act, Assign, Step, Invoke, Statement, Braces, Empty, Simply, Break, Continue, Return, If, IfElse, While, Do, For, Body, Nothing, Declare, Then}
 use Rattle.c_tree.specs.Spell.{formula_spelling, act_spelling, statement_spelling, body_spelling, type_spelling, variable_spelling, further_variables_spelling}
 use Rattle.c_grammar.specs.Until.{until, until_spelling, until_good}
-use Rattle.c_grammar.specs.Statements.{IsCall, IsWritten, IsWrittenStatement, Piece, Declaring, Stating, body_of, piece_spelling, IsGoodPiece, IsPieceEnd, IsGoodBody, closed_spelling, closed_body}
+use Rattle.c_grammar.specs.Statements.{IsCall, IsWritten, IsWrittenStatement, BodyPart, Declaring, Stating, body_of, part_spelling, IsGoodPart, IsPartEnd, IsGoodBody, closed_spelling, closed_body}
 use Rattle.c_grammar.proofs.Until.{until_law}
 
 -- ---- what a part begins with
@@ -67,42 +67,42 @@ statement_begun (While at p c q x) h = record { first = Symbol.Fixed at (codes "
 statement_begun (Do at x w p c q z) h = record { first = Symbol.Fixed at (codes "do"); fits = λ t. (refl, refl); front = record { others = _; is = refl } }
 statement_begun (For at p f a c b z q x) h = record { first = Symbol.Fixed at (codes "for"); fits = λ t. (refl, refl); front = record { others = _; is = refl } }
 
-declaration_begun : (d : Declaration) → Begun (piece_spelling (Declaring d))
+declaration_begun : (d : Declaration) → Begun (part_spelling (Declaring d))
 declaration_begun d = by d.word
   where
     by : (w : TypeWord) → Begun (type_spelling w ++ variable_spelling d.first ++ further_variables_spelling d.rest ++ fixed d.semicolon (codes ";"))
     by (type_word.Int at) = record { first = Symbol.Fixed at (codes "int"); fits = λ t. (refl, refl); front = record { others = _; is = refl } }
 
-piece_begun : (room : ℕ) (p : Piece) → IsGoodPiece room p → Begun (piece_spelling p)
-piece_begun room (Declaring d) h = declaration_begun d
-piece_begun room (Stating s) h = statement_begun s h.written
+part_begun : (room : ℕ) (p : BodyPart) → IsGoodPart room p → Begun (part_spelling p)
+part_begun room (Declaring d) h = declaration_begun d
+part_begun room (Stating s) h = statement_begun s h.written
 
 -- so a part isn't taken for the brace, and takes a symbol
-part_unmarked : (room : ℕ) (p : Piece) (r : List Symbol) → IsGoodPiece room p → behind (codes "}") (piece_spelling p ++ r) ≡ None
-part_unmarked room p r g = let b = piece_begun room p g in let f = front_more b.first (piece_spelling p) r b.front in ap (behind (codes "}")) f.is ∙ (b.fits f.others).0
+part_unmarked : (room : ℕ) (p : BodyPart) (r : List Symbol) → IsGoodPart room p → behind (codes "}") (part_spelling p ++ r) ≡ None
+part_unmarked room p r g = let b = part_begun room p g in let f = front_more b.first (part_spelling p) r b.front in ap (behind (codes "}")) f.is ∙ (b.fits f.others).0
 
-part_else : (room : ℕ) (p : Piece) (r : List Symbol) → IsGoodPiece room p → behind (codes "else") (piece_spelling p ++ r) ≡ None
-part_else room p r g = let b = piece_begun room p g in let f = front_more b.first (piece_spelling p) r b.front in ap (behind (codes "else")) f.is ∙ (b.fits f.others).1
+part_else : (room : ℕ) (p : BodyPart) (r : List Symbol) → IsGoodPart room p → behind (codes "else") (part_spelling p ++ r) ≡ None
+part_else room p r g = let b = part_begun room p g in let f = front_more b.first (part_spelling p) r b.front in ap (behind (codes "else")) f.is ∙ (b.fits f.others).1
 
-part_some : (room : ℕ) (p : Piece) → IsGoodPiece room p → 0 < length (piece_spelling p)
-part_some room p g = let b = piece_begun room p g in rw b.front.is (omega arith)
+part_some : (room : ℕ) (p : BodyPart) → IsGoodPart room p → 0 < length (part_spelling p)
+part_some room p g = let b = part_begun room p g in rw b.front.is (omega arith)
 
-part_before : (room : ℕ) (x y : Piece) (r : List Symbol) → IsGoodPiece room x → IsGoodPiece room y → IsPieceEnd x (piece_spelling y ++ r)
+part_before : (room : ℕ) (x y : BodyPart) (r : List Symbol) → IsGoodPart room x → IsGoodPart room y → IsPartEnd x (part_spelling y ++ r)
 part_before room (Declaring d) y r g h = tt
 part_before room (Stating s) y r g h = λ _. part_else room y r h
 
-part_closed : (x : Piece) (at : ℕ) (r : List Symbol) → IsPieceEnd x (Symbol.Fixed at (codes "}") ∷ r)
+part_closed : (x : BodyPart) (at : ℕ) (r : List Symbol) → IsPartEnd x (Symbol.Fixed at (codes "}") ∷ r)
 part_closed (Declaring d) at r = tt
 part_closed (Stating s) at r = λ _. refl
 
 -- ---- parts and the body that they make
 
-body_spelled : (ps : List Piece) → body_spelling (body_of ps) ≡ flat_map piece_spelling ps
+body_spelled : (ps : List BodyPart) → body_spelling (body_of ps) ≡ flat_map part_spelling ps
 body_spelled [] = refl
-body_spelled (Declaring d ∷ ps) = ap (λ u. piece_spelling (Declaring d) ++ u) (body_spelled ps)
+body_spelled (Declaring d ∷ ps) = ap (λ u. part_spelling (Declaring d) ++ u) (body_spelled ps)
 body_spelled (Stating s ∷ ps) = ap (λ u. statement_spelling s ++ u) (body_spelled ps)
 
-body_good : (room : ℕ) (ps : List Piece) (q : ℕ) → Goods (IsGoodPiece room) ps → IsGoodBody room (body_of ps, q)
+body_good : (room : ℕ) (ps : List BodyPart) (q : ℕ) → Goods (IsGoodPart room) ps → IsGoodBody room (body_of ps, q)
 body_good room [] q h = record { written = tt; leveled = tt; shallow = omega arith }
 body_good room (Declaring d ∷ ps) q h =
     let b = body_good room ps q h.1 in
@@ -112,34 +112,34 @@ body_good room (Stating s ∷ ps) q h =
     record { written = (h.0.written, b.written); leveled = (h.0.leveled, b.leveled); shallow = omega (arith, h.0.shallow, b.shallow) }
 
 -- each body is made of its parts
-abbrev pieces_of : Body → List Piece
-pieces_of Nothing = []
-pieces_of (Declare d rest) = Declaring d ∷ pieces_of rest
-pieces_of (Then s rest) = Stating s ∷ pieces_of rest
+abbrev parts_of : Body → List BodyPart
+parts_of Nothing = []
+parts_of (Declare d rest) = Declaring d ∷ parts_of rest
+parts_of (Then s rest) = Stating s ∷ parts_of rest
 
-pieces_made : (b : Body) → body_of (pieces_of b) ≡ b
-pieces_made Nothing = refl
-pieces_made (Declare d rest) = ap (λ u. Declare d u) (pieces_made rest)
-pieces_made (Then s rest) = ap (λ u. Then s u) (pieces_made rest)
+parts_made : (b : Body) → body_of (parts_of b) ≡ b
+parts_made Nothing = refl
+parts_made (Declare d rest) = ap (λ u. Declare d u) (parts_made rest)
+parts_made (Then s rest) = ap (λ u. Then s u) (parts_made rest)
 
-pieces_good : (room : ℕ) (b : Body) (q : ℕ) → IsGoodBody room (b, q) → Goods (IsGoodPiece room) (pieces_of b)
-pieces_good room Nothing q h = tt
-pieces_good room (Declare d rest) q h =
-    (record { first = h.leveled.0; rest = h.leveled.1; shallow = omega (arith, h.shallow) }, pieces_good room rest q (record { written = h.written; leveled = h.leveled.2; shallow = omega (arith, h.shallow) }))
-pieces_good room (Then s rest) q h = (
+parts_good : (room : ℕ) (b : Body) (q : ℕ) → IsGoodBody room (b, q) → Goods (IsGoodPart room) (parts_of b)
+parts_good room Nothing q h = tt
+parts_good room (Declare d rest) q h =
+    (record { first = h.leveled.0; rest = h.leveled.1; shallow = omega (arith, h.shallow) }, parts_good room rest q (record { written = h.written; leveled = h.leveled.2; shallow = omega (arith, h.shallow) }))
+parts_good room (Then s rest) q h = (
   record { written = h.written.0; leveled = h.leveled.0; shallow = omega (arith, h.shallow) },
-  pieces_good room rest q (record { written = h.written.1; leveled = h.leveled.1; shallow = omega (arith, h.shallow) }),
+  parts_good room rest q (record { written = h.written.1; leveled = h.leveled.1; shallow = omega (arith, h.shallow) }),
 )
 
-abbrev make : List Piece × ℕ → Body × ℕ
+abbrev make : List BodyPart × ℕ → Body × ℕ
 make (ps, q) = (body_of ps, q)
 
-from_pieces : (room : ℕ) (y : Body × ℕ) → IsGoodBody room y → IsMade (until_good (IsGoodPiece room)) make y
-from_pieces room (b, q) h = ((pieces_of b, q), pieces_good room b q h, ap (λ u. (u, q)) (pieces_made b))
+from_parts : (room : ℕ) (y : Body × ℕ) → IsGoodBody room y → IsMade (until_good (IsGoodPart room)) make y
+from_parts room (b, q) h = ((parts_of b, q), parts_good room b q h, ap (λ u. (u, q)) (parts_made b))
 
 -- so a body is read lawfully
-pub closed_body_law : (room : ℕ) (reads : Reading Piece) → IsReading piece_spelling (IsGoodPiece room) IsPieceEnd reads → IsReading closed_spelling (IsGoodBody room) Anywhere (closed_body reads)
+pub closed_body_law : (room : ℕ) (reads : Reading BodyPart) → IsReading part_spelling (IsGoodPart room) IsPartEnd reads → IsReading closed_spelling (IsGoodBody room) Anywhere (closed_body reads)
 closed_body_law room reads l =
-    made_all make (until_spelling (codes "}") piece_spelling) (until_good (IsGoodPiece room)) (until (codes "}") reads) closed_spelling (IsGoodBody room) Anywhere
-    (λ x. ap (λ u. u ++ fixed x.1 (codes "}")) (body_spelled x.0)) (λ x h. body_good room x.0 x.1 h) (from_pieces room)
-    (until_law (codes "}") piece_spelling (IsGoodPiece room) IsPieceEnd reads l.law (part_unmarked room) (part_some room) (part_before room) (λ x at r g. part_closed x at r))
+    made_all make (until_spelling (codes "}") part_spelling) (until_good (IsGoodPart room)) (until (codes "}") reads) closed_spelling (IsGoodBody room) Anywhere
+    (λ x. ap (λ u. u ++ fixed x.1 (codes "}")) (body_spelled x.0)) (λ x h. body_good room x.0 x.1 h) (from_parts room)
+    (until_law (codes "}") part_spelling (IsGoodPart room) IsPartEnd reads l.law (part_unmarked room) (part_some room) (part_before room) (λ x at r g. part_closed x at r))

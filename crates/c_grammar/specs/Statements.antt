@@ -64,19 +64,19 @@ IsStatementEnd = OpenEnds ends_open (codes "else")
 -- ---- what stands in a block
 
 -- a declaration or a statement
-pub data Piece : Type 0 where
-  Declaring : Declaration → Piece
-  Stating : Statement → Piece
+pub data BodyPart : Type 0 where
+  Declaring : Declaration → BodyPart
+  Stating : Statement → BodyPart
 
--- the pieces one after the other
-abbrev pub body_of : List Piece → Body
+-- the parts one after the other
+abbrev pub body_of : List BodyPart → Body
 body_of [] = Nothing
 body_of (Declaring d ∷ ps) = Declare d (body_of ps)
 body_of (Stating s ∷ ps) = Then s (body_of ps)
 
-abbrev pub piece_spelling : Piece → List Symbol
-piece_spelling (Declaring d) = declaration_spelling d
-piece_spelling (Stating s) = statement_spelling s
+abbrev pub part_spelling : BodyPart → List Symbol
+part_spelling (Declaring d) = declaration_spelling d
+part_spelling (Stating s) = statement_spelling s
 
 -- a declaration of at most this depth whose operators stand where they belong
 pub record IsGoodDeclaration (room : ℕ) (d : Declaration) : Type 0 where
@@ -84,13 +84,13 @@ pub record IsGoodDeclaration (room : ℕ) (d : Declaration) : Type 0 where
   pub rest : AreLeveledVariables d.rest
   pub shallow : declaration_depth d ≤ room
 
-abbrev pub IsGoodPiece : ℕ → Piece → Type 0
-IsGoodPiece room (Declaring d) = IsGoodDeclaration room d
-IsGoodPiece room (Stating s) = IsGoodStatement room s
+abbrev pub IsGoodPart : ℕ → BodyPart → Type 0
+IsGoodPart room (Declaring d) = IsGoodDeclaration room d
+IsGoodPart room (Stating s) = IsGoodStatement room s
 
-abbrev pub IsPieceEnd : Piece → List Symbol → Type 0
-IsPieceEnd (Declaring d) r = Unit {0}
-IsPieceEnd (Stating s) r = IsStatementEnd s r
+abbrev pub IsPartEnd : BodyPart → List Symbol → Type 0
+IsPartEnd (Declaring d) r = Unit {0}
+IsPartEnd (Stating s) r = IsStatementEnd s r
 
 -- what stands between the braces of a block, each part of which is of at most this depth, and the second brace
 pub record IsGoodBody (room : ℕ) (b : Body × ℕ) : Type 0 where
@@ -102,5 +102,5 @@ abbrev pub closed_spelling : Body × ℕ → List Symbol
 closed_spelling (b, q) = body_spelling b ++ fixed q (codes "}")
 
 -- the parts of a block up to its second brace, by the reading of one
-abbrev pub closed_body : Reading Piece → Reading (Body × ℕ)
+abbrev pub closed_body : Reading BodyPart → Reading (Body × ℕ)
 closed_body reads = made (λ (ps, q). (body_of ps, q)) (until (codes "}") reads)

@@ -13,7 +13,7 @@ ghost use Rattle.c_grammar.specs.Calls.{called, inside_call, IsCallOf};
 ghost use Rattle.c_grammar.specs.Globals.{global_variable, IsGlobalEnd};
 ghost use Rattle.c_grammar.specs.Parameters.{parameters, parameters_spelling};
 ghost use Rattle.c_grammar.specs.Until.{tailed_spelling, tailed_good};
-ghost use Rattle.c_grammar.specs.Statements.{IsGoodStatement, IsStatementEnd, Piece, piece_spelling, IsGoodPiece, IsPieceEnd, IsGoodBody, closed_spelling, closed_body, IsGoodDeclaration};
+ghost use Rattle.c_grammar.specs.Statements.{IsGoodStatement, IsStatementEnd, BodyPart, part_spelling, IsGoodPart, IsPartEnd, IsGoodBody, closed_spelling, closed_body, IsGoodDeclaration};
 
 /// A law: no symbols spell two expressions.
 pub fn one_expression()
@@ -35,7 +35,7 @@ pub fn read_else()
 
 /// A law: where the declarations and statements of a block are read lawfully, what stands between its braces is, with the second one.
 pub fn read_body()
-    ensures { (room : ℕ) (reads : Reading Piece) → IsReading piece_spelling (IsGoodPiece room) IsPieceEnd reads → IsReading closed_spelling (IsGoodBody room) Anywhere (closed_body reads) }
+    ensures { (room : ℕ) (reads : Reading BodyPart) → IsReading part_spelling (IsGoodPart room) IsPartEnd reads → IsReading closed_spelling (IsGoodBody room) Anywhere (closed_body reads) }
 {}
 
 /// A law: declarations of local variables, whose initial values are no deeper than `room`, are read lawfully.

@@ -15,7 +15,7 @@ use Rattle.nml_tree.specs.Reach.{IsBelow, CycleFault}
 use Rattle.nml_tree.specs.Refused.{IsFirstRule}
 use Rattle.nml_types.specs.declared.names.Declaration.{Declaration}
 use Rattle.nml_types.specs.Naming.{declaration, AreDeclared}
-use Rattle.nml_types.specs.Below.{Names, number_of, rule_number, part, below, graph, looked}
+use Rattle.nml_types.specs.Below.{Names, first_number, rule_number, part, below, graph, looked}
 use Rattle.nml_types.specs.Graphs.{Graph, row, Among, Edge, Reaches, at_once, over, InRange}
 use Rattle.nml_types.proofs.Search.{starts_below}
 use Rattle.nml_types.proofs.RuleNames.{first_item, rule_part, only_rule, declared_rule, only_back, Stands, numbered, known_stands, named, first_least, some_same, alternatives_have, alternatives_from, parts_have, parts_from, IsPartOf, is_part_of}
@@ -96,7 +96,7 @@ module _ (d : Desc) where
       (r.0, record { stands = r.1; rule = ap is_rule same ∙ s.2 })
 
   -- one step, from names to numbers
-  number_here : (b : Text) (m : ℕ) → RuleAt b m → Among (number_of (f b)) m
+  number_here : (b : Text) (m : ℕ) → RuleAt b m → Among (first_number (f b)) m
   number_here b m s = let l = s.stands.number in rw s.stands.is (inl (omega (arith, l)))
 
   rule_number_here : (b : Text) (m : ℕ) → RuleAt b m → Among (rule_number (f b)) m
@@ -148,10 +148,10 @@ module _ (d : Desc) where
     pub stands : Stands d.items 0 name m
     pub below : (a : Text) → first_item d.items a ≡ Some i → IsBelow t a name
 
-  number_back : (y : Text) (m : ℕ) → Among (number_of (f y)) m → Stands d.items 0 y m
+  number_back : (y : Text) (m : ℕ) → Among (first_number (f y)) m → Stands d.items 0 y m
   number_back y m h = by (f y) refl h
     where
-      by : (o : Option Declaration) → f y ≡ o → Among (number_of o) m → Stands d.items 0 y m
+      by : (o : Option Declaration) → f y ≡ o → Among (first_number o) m → Stands d.items 0 y m
       by None e h = absurd h
       by (Some k) e (inl h) = subst (Stands d.items 0 y) h (known_stands d.items y k e)
       by (Some k) e (inr h) = absurd h

@@ -20,7 +20,7 @@ use Rattle.nml_tree.specs.NameFault.{is_rule}
 use Rattle.nml_tree.proofs.SameText.{same_text, equal_text}
 use Rattle.nml_types.specs.declared.names.Declaration.{Declaration}
 use Rattle.nml_types.specs.Naming.{constant_of, declaration, least_place, is_late}
-use Rattle.nml_types.specs.Below.{Names, number_of, part, with_alternatives, with_parts}
+use Rattle.nml_types.specs.Below.{Names, first_number, part, with_alternatives, with_parts}
 use Rattle.nml_types.specs.Graphs.{Among}
 use Rattle.nml_types.proofs.Search.{among_front}
 
@@ -214,19 +214,19 @@ among_last (x ∷ xs) ys m h = inr (among_last xs ys m h)
 -- alternatives
 alternatives_kept : (f : Names) (numbers : List ℕ) (ns : List Text) (m : ℕ) → Among numbers m → Among (with_alternatives f numbers ns) m
 alternatives_kept f numbers [] m h = h
-alternatives_kept f numbers (n ∷ ns) m h = alternatives_kept f (numbers ++ number_of (f n)) ns m (among_front numbers (number_of (f n)) m h)
+alternatives_kept f numbers (n ∷ ns) m h = alternatives_kept f (numbers ++ first_number (f n)) ns m (among_front numbers (first_number (f n)) m h)
 
-pub alternatives_have : (f : Names) (numbers : List ℕ) (ns : List Text) (y : Text) (m : ℕ) → Contains ns y → Among (number_of (f y)) m → Among (with_alternatives f numbers ns) m
+pub alternatives_have : (f : Names) (numbers : List ℕ) (ns : List Text) (y : Text) (m : ℕ) → Contains ns y → Among (first_number (f y)) m → Among (with_alternatives f numbers ns) m
 alternatives_have f numbers [] y m c h = let l = c.1 in absurd (omega (arith, l))
 alternatives_have f numbers (n ∷ ns) y m c h = elim (in_either n ns y c) [
-  | inl e ↦ alternatives_kept f (numbers ++ number_of (f n)) ns m (among_last numbers (number_of (f n)) m (rw e h))
-  | inr r ↦ alternatives_have f (numbers ++ number_of (f n)) ns y m r h
+  | inl e ↦ alternatives_kept f (numbers ++ first_number (f n)) ns m (among_last numbers (first_number (f n)) m (rw e h))
+  | inr r ↦ alternatives_have f (numbers ++ first_number (f n)) ns y m r h
 ]
 
-pub alternatives_from : (f : Names) (numbers : List ℕ) (ns : List Text) (m : ℕ) → Among (with_alternatives f numbers ns) m → Among numbers m ⊎ ((y : Text) × Contains ns y × Among (number_of (f y)) m)
+pub alternatives_from : (f : Names) (numbers : List ℕ) (ns : List Text) (m : ℕ) → Among (with_alternatives f numbers ns) m → Among numbers m ⊎ ((y : Text) × Contains ns y × Among (first_number (f y)) m)
 alternatives_from f numbers [] m h = inl h
-alternatives_from f numbers (n ∷ ns) m h = elim (alternatives_from f (numbers ++ number_of (f n)) ns m h) [
-  | inl k ↦ elim (among_both numbers (number_of (f n)) m k) [ inl a ↦ inl a | inr a ↦ inr (n, in_front n ns, a) ]
+alternatives_from f numbers (n ∷ ns) m h = elim (alternatives_from f (numbers ++ first_number (f n)) ns m h) [
+  | inl k ↦ elim (among_both numbers (first_number (f n)) m k) [ inl a ↦ inl a | inr a ↦ inr (n, in_front n ns, a) ]
   | inr r ↦ inr (r.0, in_behind n ns r.0 r.1, r.2)
 ]
 

@@ -20,9 +20,9 @@ abbrev pub looked : List (Text × Declaration) → Names
 looked entries name = lookup (text_eq name) entries
 
 -- the number of the item that declares a name, where there is one
-abbrev pub number_of : Option Declaration → List ℕ
-number_of None = []
-number_of (Some d) = d.first ∷ []
+abbrev pub first_number : Option Declaration → List ℕ
+first_number None = []
+first_number (Some d) = d.first ∷ []
 
 -- where it is a rule
 abbrev pub rule_number : Option Declaration → List ℕ
@@ -37,7 +37,7 @@ part f _ = []
 -- behind these numbers, those of alternatives
 abbrev pub with_alternatives : Names → List ℕ → List Text → List ℕ
 with_alternatives f numbers [] = numbers
-with_alternatives f numbers (n ∷ ns) = with_alternatives f (numbers ++ number_of (f n)) ns
+with_alternatives f numbers (n ∷ ns) = with_alternatives f (numbers ++ first_number (f n)) ns
 
 -- behind these numbers, those of parts
 abbrev pub with_parts : Names → List ℕ → List Par → List ℕ

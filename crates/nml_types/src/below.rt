@@ -2,7 +2,7 @@
 ghost use Rattle.std.specs.Prelude.{◌≡◌, ◌++◌, map, IfOk, OnOk};
 ghost use Rattle.nml_tree.specs.Table.{pars_of};
 ghost use Rattle.nml_types.specs.Below as spec;
-ghost use Rattle.nml_types.specs.Below.{looked, number_of, with_alternatives, with_parts};
+ghost use Rattle.nml_types.specs.Below.{looked, first_number, with_alternatives, with_parts};
 
 use crate::names::Declaration;
 use indexmap::IndexMap;
@@ -17,7 +17,7 @@ fn push_number(
     name: &Text,
     numbers: &mut Vec<usize>,
 ) -> Result<(), Memory>
-    ensures { OnOk result (numbers.new.items ≡ numbers.old.items ++ number_of (looked names.now.entries name.now)) }
+    ensures { OnOk result (numbers.new.items ≡ numbers.old.items ++ first_number (looked names.now.entries name.now)) }
 {
     match names.get(name) {
         None => Ok(()),
