@@ -10,17 +10,17 @@ use Rattle.nml_tree.specs.Image.{images}
 use Rattle.nml_tree.specs.Syntax.{syntaxes}
 use Rattle.nml_tree.specs.Table.{Text}
 use Rattle.nml_tree.specs.Template.{given}
-use Rattle.attr_eval.specs.declared.piece.Piece.{Piece}
-use Rattle.attr_eval.specs.declared.piece.Piece.TheVariants as piece
+use Rattle.attr_eval.specs.declared.piece.Element.{Element}
+use Rattle.attr_eval.specs.declared.piece.Element.TheVariants as piece
 
 -- the piece of a string, whatever digits and letter a directive has
-abbrev pub IsPiece : Piece → attribute.FormatPiece → Type 0
-IsPiece (piece.Letter c) q = q ≡ attribute.Letter c
-IsPiece piece.Directive q = (digits : List ℕ) × (letter : ℕ) × (q ≡ attribute.Directive digits letter)
+abbrev pub IsElement : Element → attribute.FormatPiece → Type 0
+IsElement (piece.Letter c) q = q ≡ attribute.Letter c
+IsElement piece.Directive q = (digits : List ℕ) × (letter : ℕ) × (q ≡ attribute.Directive digits letter)
 
 -- the string begins with the piece, and these are the pieces behind it
-abbrev pub Begins : Piece → List ℕ → List ℕ → Type 0
-Begins p rest text = (q : attribute.FormatPiece) × IsPiece p q × (pieces text ≡ q ∷ pieces rest)
+abbrev pub Begins : Element → List ℕ → List ℕ → Type 0
+Begins p rest text = (q : attribute.FormatPiece) × IsElement p q × (pieces text ≡ q ∷ pieces rest)
 
 -- no parameter before this number has the name
 abbrev pub Other : Text → List Par → ℕ → Type 0

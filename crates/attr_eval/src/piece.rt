@@ -7,13 +7,13 @@ ghost use Rattle.nml_tree.specs.Attribute.{directive_behind, pieces};
 
 /// A character, or a directive, which takes the next argument.
 #[derive(Clone, Copy)]
-pub enum Piece {
+pub enum Element {
     Letter(u8),
     Directive,
 }
 
 /// The piece in front, and what stands behind it; `None` where the string ends. It takes no memory.
-pub fn next_piece(text: &[u8]) -> Option<(Piece, &[u8])>
+pub fn next_piece(text: &[u8]) -> Option<(Element, &[u8])>
     ensures piece { MatchOption result (text.now ≡ []) (λ x. Begins x.0 x.1.now text.now) }
     ensures shorter { IfSome result (λ x. length x.1.now < length text.now) }
 {
@@ -22,11 +22,11 @@ pub fn next_piece(text: &[u8]) -> Option<(Piece, &[u8])>
         Some((c, rest)) => {
             if *c == 37 {
                 match directive_end(rest) {
-                    None => Some((Piece::Letter(37), &rest[rest.len()..])),
-                    Some(after) => Some((Piece::Directive, after)),
+                    None => Some((Element::Letter(37), &rest[rest.len()..])),
+                    Some(after) => Some((Element::Directive, after)),
                 }
             } else {
-                Some((Piece::Letter(*c), rest))
+                Some((Element::Letter(*c), rest))
             }
         }
     }

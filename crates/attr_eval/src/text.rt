@@ -1,7 +1,7 @@
 //! The syntax of a derivation.
 
 ghost use Rattle.std.specs.Prelude.{◌≡◌, ◌∷◌, ◌++◌, [], ℕ, ℤ, List, codes, length, map, Some, IfOk, OnOk};
-ghost use Rattle.attr_eval.specs.Found.{IsPiece, text_given};
+ghost use Rattle.attr_eval.specs.Found.{IsElement, text_given};
 ghost use Rattle.attr_eval.specs.Walks.{Walks, WalksAll};
 ghost use Rattle.nml_tree.specs.Attribute as attribute;
 ghost use Rattle.nml_tree.specs.Attribute.{pieces};
@@ -11,7 +11,7 @@ ghost use Rattle.nml_tree.specs.Table.{entries, pars_of, table};
 ghost use Rattle.nml_tree.specs.Template.{given, put_in, text_of};
 ghost use Rattle.nml_tree.specs.Walk.{IsWalkOf};
 
-use crate::piece::{Piece, next_piece};
+use crate::piece::{Element, next_piece};
 use crate::skip::skip_pars;
 use crate::turn::{Turn, first_par, first_turn, part_of};
 use nk_base::{Memory, Text, dec};
@@ -148,21 +148,21 @@ fn put_piece<'l>(
     alloc: Global,
     items: &[Item],
     pars: &Option<Pars>,
-    piece: Piece,
+    piece: Element,
     list: &'l [(u32, Arg)],
     picks: &[u32],
     fields: &[i128],
     limit: usize,
     out: &mut Text,
 ) -> Result<&'l [(u32, Arg)], Memory>
-    ensures { IfOk result (λ left. (args : Arguments) (ks : List ℕ) (ys : List ℤ) → WalksAll (entries [] items.now) (pars_of pars.now) limit args picks.now fields.now ks ys → (q : attribute.FormatPiece) → IsPiece piece q → (more : List attribute.FormatPiece) → out.new ++ put_in (λ c. c) more (text_given args left.now) ≡ out.old ++ put_in (λ c. c) (q ∷ more) (text_given args list.now)) }
+    ensures { IfOk result (λ left. (args : Arguments) (ks : List ℕ) (ys : List ℤ) → WalksAll (entries [] items.now) (pars_of pars.now) limit args picks.now fields.now ks ys → (q : attribute.FormatPiece) → IsElement piece q → (more : List attribute.FormatPiece) → out.new ++ put_in (λ c. c) more (text_given args left.now) ≡ out.old ++ put_in (λ c. c) (q ∷ more) (text_given args list.now)) }
 {
     match piece {
-        Piece::Letter(c) => {
+        Element::Letter(c) => {
             out.push(c)?;
             Ok(list)
         }
-        Piece::Directive => match list.split_first() {
+        Element::Directive => match list.split_first() {
             None => Ok(list),
             Some(((_, arg), left)) => {
                 put_named(

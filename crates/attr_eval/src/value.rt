@@ -142,11 +142,11 @@ fn constant(items: &[Item], name: &[u8]) -> i128
 {
     match find(items, name) {
         None => 0,
-        Some((_, item)) => number_of(item),
+        Some((_, item)) => item_number(item),
     }
 }
 
-fn number_of(item: &Item) -> i128
+fn item_number(item: &Item) -> i128
     ensures { (t : Table) (zs : List ℤ) (i : Term) → result ≡ spec.value (alone zs) (source (Some (entry t item.now).1) i) }
 {
     match item {

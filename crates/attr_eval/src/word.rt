@@ -1,7 +1,7 @@
 //! The image of a derivation.
 
 ghost use Rattle.std.specs.Prelude.{◌≡◌, ◌∷◌, [], ℕ, ℤ, List, codes, length, map, Some, MatchOption};
-ghost use Rattle.attr_eval.specs.Found.{IsFirst, IsPiece, Other, bits_given};
+ghost use Rattle.attr_eval.specs.Found.{IsFirst, IsElement, Other, bits_given};
 ghost use Rattle.attr_eval.specs.Run.{pushed};
 ghost use Rattle.attr_eval.specs.Walks.{Walks, WalksAll};
 ghost use Rattle.nml_tree.specs.Attribute as attribute;
@@ -13,7 +13,7 @@ ghost use Rattle.nml_tree.specs.Table.{entries, pars_of, table};
 ghost use Rattle.nml_tree.specs.Template.{given, put_in, text_of};
 ghost use Rattle.nml_tree.specs.Walk.{IsWalkOf};
 
-use crate::piece::{Piece, next_piece};
+use crate::piece::{Element, next_piece};
 use crate::run::{Run, push_number};
 use crate::skip::skip_pars;
 use crate::turn::{Turn, first_par, first_turn, part_of};
@@ -139,18 +139,18 @@ fn write_format(
 fn write_piece<'l>(
     items: &[Item],
     pars: &Option<Pars>,
-    piece: Piece,
+    piece: Element,
     list: &'l [(u32, Arg)],
     picks: &[u32],
     fields: &[i128],
     limit: usize,
     out: Run,
 ) -> (Run, &'l [(u32, Arg)])
-    ensures { (args : Arguments) (ks : List ℕ) (ys : List ℤ) → WalksAll (entries [] items.now) (pars_of pars.now) limit args picks.now fields.now ks ys → (q : attribute.FormatPiece) → IsPiece piece q → (more : List attribute.FormatPiece) → pushed result.0 (put_in spec.bit more (bits_given args result.1.now)) ≡ pushed out (put_in spec.bit (q ∷ more) (bits_given args list.now)) }
+    ensures { (args : Arguments) (ks : List ℕ) (ys : List ℤ) → WalksAll (entries [] items.now) (pars_of pars.now) limit args picks.now fields.now ks ys → (q : attribute.FormatPiece) → IsElement piece q → (more : List attribute.FormatPiece) → pushed result.0 (put_in spec.bit more (bits_given args result.1.now)) ≡ pushed out (put_in spec.bit (q ∷ more) (bits_given args list.now)) }
 {
     match piece {
-        Piece::Letter(c) => (out.push(c == 49), list),
-        Piece::Directive => match list.split_first() {
+        Element::Letter(c) => (out.push(c == 49), list),
+        Element::Directive => match list.split_first() {
             None => (out, list),
             Some(((_, arg), left)) => (
                 write_named(

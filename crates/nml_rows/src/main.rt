@@ -6,9 +6,9 @@ mod case;
 mod difference;
 mod fault;
 mod machine;
-mod piece;
 mod stage;
 mod step;
+mod stretch;
 mod words;
 
 use crate::stage::Stage;

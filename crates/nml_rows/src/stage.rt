@@ -1,8 +1,8 @@
 use crate::case::{Case, NO_CALL};
 use crate::fault::Fault;
 use crate::machine::Machine;
-use crate::piece::Piece;
 use crate::step::{Step, step_of};
+use crate::stretch::Stretch;
 use crate::words::word_of;
 use indexmap::IndexMap;
 use nk_base::{Memory, Text, dec};
@@ -90,7 +90,7 @@ impl Stage {
     fn take(&mut self, line: &str) -> Result<(), Fault> {
         match step_of(line)? {
             Step::Remark => Ok(()),
-            Step::Piece(piece) => self.append(piece),
+            Step::Stretch(stretch) => self.append(stretch),
             step => {
                 self.close()?;
                 self.follow(step)
@@ -101,7 +101,7 @@ impl Stage {
     /// Does what a line says that isn't one of bytes.
     fn follow(&mut self, step: Step<'_>) -> Result<(), Fault> {
         match step {
-            Step::Remark | Step::Piece(_) => Ok(()),
+            Step::Remark | Step::Stretch(_) => Ok(()),
             Step::File(name) => self.begin_file(name),
             Step::Case(name) => self.begin_case(name),
             Step::FailCall(number) => self.fail_call(number),
@@ -115,13 +115,13 @@ impl Stage {
     }
 
     /// Appends bytes to what they belong to.
-    fn append(&mut self, piece: Piece<'_>) -> Result<(), Fault> {
+    fn append(&mut self, stretch: Stretch<'_>) -> Result<(), Fault> {
         if let Place::Nowhere = self.place {
             return Err(Fault::Line("nothing takes bytes here"));
         }
         match &self.case {
-            Some(case) => piece.append_to(self.alloc, &mut self.bytes, &case.wanted),
-            None => piece.append_to(self.alloc, &mut self.bytes, &self.shared),
+            Some(case) => stretch.append_to(self.alloc, &mut self.bytes, &case.wanted),
+            None => stretch.append_to(self.alloc, &mut self.bytes, &self.shared),
         }
     }
 

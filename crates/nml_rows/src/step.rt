@@ -1,5 +1,5 @@
 use crate::fault::Fault;
-use crate::piece::{Piece, piece_of};
+use crate::stretch::{Stretch, stretch_of};
 
 /// What a line of a transcript says.
 #[derive(Clone, Copy)]
@@ -25,7 +25,7 @@ pub enum Step<'a> {
     /// After the call, there is to be no such file.
     Gone(&'a str),
     /// Bytes of a file, or of what is printed.
-    Piece(Piece<'a>),
+    Stretch(Stretch<'a>),
 }
 
 /// What the line says, by its first word.
@@ -39,11 +39,11 @@ pub fn step_of(line: &str) -> Result<Step<'_>, Fault> {
         "case" => Ok(Step::Case(rest)),
         "fail" => failing(rest),
         "$" => Ok(Step::Call(rest)),
-        "status" => Ok(Step::Status(number_of(rest)?)),
-        "calls" => Ok(Step::Calls(number_of(rest)?)),
+        "status" => Ok(Step::Status(number_in(rest)?)),
+        "calls" => Ok(Step::Calls(number_in(rest)?)),
         "after" => Ok(Step::After(rest)),
         "gone" => Ok(Step::Gone(rest)),
-        _ => Ok(Step::Piece(piece_of(word, rest)?)),
+        _ => Ok(Step::Stretch(stretch_of(word, rest)?)),
     }
 }
 
@@ -51,14 +51,14 @@ pub fn step_of(line: &str) -> Result<Step<'_>, Fault> {
 fn failing(rest: &str) -> Result<Step<'_>, Fault> {
     let (word, number) = rest.split_once(' ').unwrap_or((rest, ""));
     match word {
-        "call" => Ok(Step::FailCall(number_of(number)?)),
-        "put" => Ok(Step::FailPut(number_of(number)?)),
+        "call" => Ok(Step::FailCall(number_in(number)?)),
+        "put" => Ok(Step::FailPut(number_in(number)?)),
         _ => Err(Fault::Line("behind `fail` stands `call N` or `put N`")),
     }
 }
 
 /// A number in decimal.
-fn number_of(word: &str) -> Result<u64, Fault> {
+fn number_in(word: &str) -> Result<u64, Fault> {
     match word.parse::<u64>() {
         Ok(number) => Ok(number),
         Err(_) => Err(Fault::Line("here a number is wanted")),

@@ -5,7 +5,7 @@ use std::alloc::Global;
 
 /// Bytes as a line of a transcript writes them.
 #[derive(Clone, Copy)]
-pub struct Piece<'a> {
+pub struct Stretch<'a> {
     /// How many times they stand.
     times: u64,
     /// How they are written.
@@ -28,16 +28,16 @@ enum Kind {
 }
 
 /// `| TEXT`, `. TEXT`, `hex DIGITS` or `copy NAME`, or a number and one of these; the first word is given apart.
-pub fn piece_of<'a>(word: &'a str, rest: &'a str) -> Result<Piece<'a>, Fault> {
+pub fn stretch_of<'a>(word: &'a str, rest: &'a str) -> Result<Stretch<'a>, Fault> {
     match word.parse::<u64>() {
         Ok(times) => {
             let (mark, text) = rest.split_once(' ').unwrap_or((rest, ""));
             let kind = kind_of(mark)?;
-            Ok(Piece { times, kind, text })
+            Ok(Stretch { times, kind, text })
         }
         Err(_) => {
             let kind = kind_of(word)?;
-            Ok(Piece {
+            Ok(Stretch {
                 times: 1,
                 kind,
                 text: rest,
@@ -57,7 +57,7 @@ fn kind_of(word: &str) -> Result<Kind, Fault> {
     }
 }
 
-impl Piece<'_> {
+impl Stretch<'_> {
     /// Appends the bytes. Files are copied from the machine.
     pub fn append_to(
         self,
