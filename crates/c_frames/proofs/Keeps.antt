@@ -7,7 +7,7 @@ use Rattle.c_tree.specs.Program.{Term, Terms, Command, Function, Program}
 use Rattle.c_tree.specs.Program as program
 use Rattle.c_tree.specs.Meaning.{State, Next, NextOf, stopped, paid, take_next, either, is_true, entered, base_of, outcome}
 use Rattle.c_frames.specs.Frames.{Where, Loop, While, Do, For, Frame, Element, AndRight, OrRight, Passed, Calling, StoreIndex, ChangeIndex, Choose, Tested, Behind, Looping, Work, Eval, Arguments, Give, Pass, Run, Again, On, Leave, Onward, Back, frame_at, give, pass, rest}
-use Rattle.c_frames.specs.Steps.{Config, Move, Goes, Stops, either_move, paying, taking, enter, step_call, step_eval, step_arguments, step_give, step_pass, step_run, step_again, step_on, step_leave, step_onward, step_back, step_of, step, rest_of, after, follow, Follows, begin}
+use Rattle.c_frames.specs.Steps.{Config, Move, Goes, Stops, either_move, paying, taking, enter, step_call, step_eval, step_arguments, step_give, step_pass, step_run, step_again, step_on, step_leave, step_onward, step_back, step_of, step, rest_of, moved_on, follow, Follows, begin}
 
 module _ (p : Program) (n : ℕ) where
   abbrev Keeps : Outcome → Move p n → Type 0
@@ -134,13 +134,13 @@ module _ (p : Program) (n : ℕ) where
   keeps Onward w k s = onward_keeps k w s
   keeps (Back z) w k s = back_keeps k z w s
 
-  after_keeps : (o : Outcome) (go : Config p n → Move p n) → ((c : Config p n) → o ≡ rest_of p n c → Keeps o (go c)) → (t : Move p n) → Keeps o t → Keeps o (after p n go t)
-  after_keeps o go h (Goes c) is = h c is
-  after_keeps o go h (Stops stop s) is = is
+  moved_on_keeps : (o : Outcome) (go : Config p n → Move p n) → ((c : Config p n) → o ≡ rest_of p n c → Keeps o (go c)) → (t : Move p n) → Keeps o t → Keeps o (moved_on p n go t)
+  moved_on_keeps o go h (Goes c) is = h c is
+  moved_on_keeps o go h (Stops stop s) is = is
 
   pub follows : (m : ℕ) (o : Outcome) (c : Config p n) → o ≡ rest_of p n c → Keeps o (follow p n m c)
   follows zero o c is = is
-  follows (suc m) o c is = after_keeps o (follow p n m) (follows m o) (step p n c) (subst (λ x. Keeps x (step p n c)) (sym is) (keeps c.work c.place c.frames c.state))
+  follows (suc m) o c is = moved_on_keeps o (follow p n m) (follows m o) (step p n c) (subst (λ x. Keeps x (step p n c)) (sym is) (keeps c.work c.place c.frames c.state))
 
   pub from_begin : (input : List ℤ) (turns steps : ℕ) → Keeps (outcome p n input turns) (follow p n steps (begin p n input turns))
   from_begin input turns steps = follows steps (outcome p n input turns) (begin p n input turns) refl

@@ -194,14 +194,14 @@ module _ (p : Program) (n : ℕ) where
   abbrev pub rest_of : Config → Outcome
   rest_of c = rest p n c.work c.place c.frames c.state
 
-  abbrev pub after : (Config → Move) → Move → Move
-  after go (Goes c) = go c
-  after go (Stops stop s) = Stops stop s
+  abbrev pub moved_on : (Config → Move) → Move → Move
+  moved_on go (Goes c) = go c
+  moved_on go (Stops stop s) = Stops stop s
 
   -- so many steps, or fewer where it stops
   abbrev pub follow : ℕ → Config → Move
   follow zero c = Goes c
-  follow (suc m) c = after (follow m) (step c)
+  follow (suc m) c = moved_on (follow m) (step c)
 
   -- where the machine goes on, the rest of its run is this outcome; where it stops, it stops so
   abbrev pub Follows : Outcome → Move → Type 0

@@ -8,7 +8,7 @@ use Rattle.c_tree.specs.Formula.{Formula, Further, Prefix, Numeral, Named, Index
 use Rattle.c_tree.specs.Spell.{formula_spelling, further_spelling, binary_mark, prefix_mark}
 use Rattle.c_tree.specs.Level.{level, binary_level, unary_level, IsLeveled, IsLeveledFurther}
 use Rattle.c_tree.specs.Depth.{depth, further_depth}
-use Rattle.readings.specs.Reading.{Read, Found, Stuck, after, behind, mark}
+use Rattle.readings.specs.Reading.{Read, Found, Stuck, read_on, behind, mark}
 use Rattle.c_grammar.specs.Reading.{Beginning, Opening, Operation, Reader, Others, others_from, arguments, call_from, call, named, paren, operation, begun, operand, turn, climb, more, further, HasNoOperator, HasNoSuffix, HasNoIndex, IsEnd}
 use Rattle.readings.proofs.Symbols.{above}
 use Rattle.c_grammar.proofs.Symbols.{stops_more, stops_unary, operator_front, operator_weak, no_suffix, beginning_of, beginning_text}
@@ -114,7 +114,7 @@ further_one comma x xs whole whole_xs room s leveled deep h =
     let b = whole_xs room s leveled.1 (omega arith) h in
     let M : ℕ = a.0 + b.0 in
     let last : Formula → Further → List Symbol → Read Further = λ x xs t. Found (More comma x xs) t in
-    let next : Formula → List Symbol → Read Further = λ x t. after (further M room t) (last x) in (
+    let next : Formula → List Symbol → Read Further = λ x t. read_on (further M room t) (last x) in (
       suc M,
       ap (further (suc M) room) (flat-More comma x xs s)
           ∙ on (climb M 0 room inside) x tail next (Found (More comma x xs) s) (lift_climb a.0 M 0 room inside x tail (omega arith) a.1)
@@ -145,10 +145,10 @@ stands-Indexed n p i q whole room s leveled deep no_index =
     let close : List Symbol = Symbol.Fixed q (codes "]") ∷ s in
     let inside : List Symbol = formula_spelling i ++ close in
     let a = part i whole room close leveled (omega arith) refl (record { bracket = refl; parenthesis = refl }) in
-    let next : Formula → List Symbol → Read Formula = λ i r. after (mark (codes "]") r) (λ q s. Found (Indexed n p i q) s) in (
+    let next : Formula → List Symbol → Read Formula = λ i r. read_on (mark (codes "]") r) (λ q s. Found (Indexed n p i q) s) in (
       a.0,
       ap (operand (climb a.0) (further a.0) room) (flat-Indexed n p i q s)
-          ∙ room_is room (Symbol.Fixed p (codes "[") ∷ inside) (after (climb a.0 0 (room - 1) inside) next) (omega (arith, one_node i))
+          ∙ room_is room (Symbol.Fixed p (codes "[") ∷ inside) (read_on (climb a.0 0 (room - 1) inside) next) (omega (arith, one_node i))
           ∙ on (climb a.0 0 (room - 1) inside) i close next (Found (Indexed n p i q) s) a.1 refl,
     )
 
@@ -161,8 +161,8 @@ stands-CalledWith n p x xs q whole whole_xs room s leveled deep no_index =
     let a = part x whole room tail leveled.0 (omega arith) (comma_stops xs close closed) (comma_suffix xs close closed) in
     let b = whole_xs (room - 1) close leveled.1 (omega arith) closed in
     let M : ℕ = a.0 + b.0 in
-    let last : Formula → Further → List Symbol → Read Formula = λ x xs t. after (mark (codes ")") t) (λ q u. Found (CalledWith n p x xs q) u) in
-    let next : Formula → List Symbol → Read Formula = λ x r. after (further M (room - 1) r) (last x) in (
+    let last : Formula → Further → List Symbol → Read Formula = λ x xs t. read_on (mark (codes ")") t) (λ q u. Found (CalledWith n p x xs q) u) in
+    let next : Formula → List Symbol → Read Formula = λ x r. read_on (further M (room - 1) r) (last x) in (
       M,
       ap (operand (climb M) (further M) room) (flat-CalledWith n p x xs q s)
           ∙ ap (call_from (climb M) (further M) room n p inside) (not_closing x tail)
@@ -176,7 +176,7 @@ stands-Paren p x q whole room s leveled deep no_index =
     let close : List Symbol = Symbol.Fixed q (codes ")") ∷ s in
     let inside : List Symbol = formula_spelling x ++ close in
     let a = part x whole room close leveled (omega arith) refl (record { bracket = refl; parenthesis = refl }) in
-    let next : Formula → List Symbol → Read Formula = λ x r. after (mark (codes ")") r) (λ q s. Found (Paren p x q) s) in (
+    let next : Formula → List Symbol → Read Formula = λ x r. read_on (mark (codes ")") r) (λ q s. Found (Paren p x q) s) in (
       a.0,
       ap (operand (climb a.0) (further a.0) room) (flat-Paren p x q s)
           ∙ enter_paren (climb a.0) (further a.0) room p inside (omega (arith, one_node x))
@@ -204,7 +204,7 @@ comes-Binary op x at y comes_x whole_y k room s leveled le deep stops no_index z
     (lift_more n M k room (Binary op x at y) s z r (omega arith) e) in
     let turned : more (suc M) k room x here ≡ Found z r =
     ap (turn (climb M) (λ y r. more M k room y r) room x here) (operator_front k op at right le)
-    ∙ above room (depth x) (Stuck here) (after (climb M (suc (binary_level op)) (room - 1) right) next) (omega arith)
+    ∙ above room (depth x) (Stuck here) (read_on (climb M (suc (binary_level op)) (room - 1) right) next) (omega arith)
     ∙ goes in
     let a = comes_x k room here leveled.0 (omega (arith, leveled.2)) (omega arith) (operator_weak (suc (level x)) op at right (omega (arith, leveled.2))) (λ _. no_suffix op at right) z r (suc M) turned in
     (a.0, ap (climb a.0 k room) (flat-Binary op x at y s) ∙ a.1)

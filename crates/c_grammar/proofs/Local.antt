@@ -8,7 +8,7 @@ use Rattle.readings.specs.Symbol.{Symbol}
 use Rattle.c_tree.specs.Formula.{Formula, Prefix, Numeral, Named, Indexed, Called, CalledWith, Paren, Unary, Binary, NoMore, More}
 use Rattle.c_tree.specs.Level.{binary_level, unary_level}
 use Rattle.c_tree.specs.Depth.{depth}
-use Rattle.readings.specs.Reading.{Read, Found, Stuck, after, looked_up, behind, mark, with_room}
+use Rattle.readings.specs.Reading.{Read, Found, Stuck, read_on, looked_up, behind, mark, with_room}
 use Rattle.c_grammar.specs.Reading.{operators, of_level, operator, Beginning, Opening, Operation, beginnings, Reader, Others, others_from, arguments, call_from, call, named, paren, operation, begun, operand, turn, climb, more, further}
 use Rattle.readings.specs.Lawful.{rest_of, with_rest, Locally, IsLocal}
 use Rattle.readings.proofs.Local.{unread_locally, stuck_empty, found_empty, stuck_at, found_before, found_local, taken, tested, after_local, mark_local, agree_local, empty_local}
@@ -27,11 +27,11 @@ room_local {A = A} room reads l ss = by (nat_le room 1) refl
 -- ---- operands
 module _ (inner : Reader) (inner_local : (k room : ℕ) → IsLocal (inner k room)) (others : Others) (others_local : (room : ℕ) → IsLocal (others room)) where
   -- the last mark of a node
-  closed_local : (text : List ℕ) (make : ℕ → Formula) → IsLocal (λ t. after (mark text t) (λ q s. Found (make q) s))
+  closed_local : (text : List ℕ) (make : ℕ → Formula) → IsLocal (λ t. read_on (mark text t) (λ q s. Found (make q) s))
   closed_local text make = after_local (mark text) (λ q s. Found (make q) s) (mark_local text) (λ q. found_local (make q))
 
   paren_local : (room at : ℕ) → IsLocal (paren inner room at)
-  paren_local room at = after_local (inner 0 (room - 1)) (λ x r. after (mark (codes ")") r) (λ q s. Found (Paren at x q) s)) (inner_local 0 (room - 1)) (λ x. closed_local (codes ")") (Paren at x))
+  paren_local room at = after_local (inner 0 (room - 1)) (λ x r. read_on (mark (codes ")") r) (λ q s. Found (Paren at x q) s)) (inner_local 0 (room - 1)) (λ x. closed_local (codes ")") (Paren at x))
 
   operation_local : (room : ℕ) (op : Prefix) (at : ℕ) → IsLocal (operation inner room op at)
   operation_local room op at = after_local (inner unary_level (room - 1)) (λ x s. Found (Unary op at x) s) (inner_local unary_level (room - 1)) (λ x. found_local (Unary op at x))
@@ -40,7 +40,7 @@ module _ (inner : Reader) (inner_local : (k room : ℕ) → IsLocal (inner k roo
   pub others_from_local : (room : ℕ) → IsLocal (λ t. others_from inner others room t (behind (codes ",") t))
   others_from_local room =
       by_mark_local (codes ",") (λ n t. others_from inner others room t (behind (codes ",") t)) (λ n t. Found NoMore t)
-      (λ comma n t. after (inner 0 room t) (λ x s. after (others room s) (λ xs u. Found (More comma x xs) u)))
+      (λ comma n t. read_on (inner 0 room t) (λ x s. read_on (others room s) (λ xs u. Found (More comma x xs) u)))
       (λ n ss i. ap (others_from inner others room ss) i) (λ n ss at rest i. ap (others_from inner others room ss) i)
       (λ n. found_local NoMore)
       (λ comma n. after_local (inner 0 room) _ (inner_local 0 room) (λ x. after_local (others room) _ (others_local room) (λ xs. found_local (More comma x xs)))) 0
@@ -68,8 +68,8 @@ module _ (inner : Reader) (inner_local : (k room : ℕ) → IsLocal (inner k roo
       (λ m. found_local (Named n)) (λ p m. call_from_local room n p) 0
 
   -- a name, and the expression in brackets behind it if there is one, or else a call
-  bracket_local : (room : ℕ) (n : Name) (p : ℕ) → IsLocal (λ t. after (inner 0 (room - 1) t) (λ i r. after (mark (codes "]") r) (λ q s. Found (Indexed n p i q) s)))
-  bracket_local room n p = after_local (inner 0 (room - 1)) (λ i r. after (mark (codes "]") r) (λ q s. Found (Indexed n p i q) s)) (inner_local 0 (room - 1)) (λ i. closed_local (codes "]") (Indexed n p i))
+  bracket_local : (room : ℕ) (n : Name) (p : ℕ) → IsLocal (λ t. read_on (inner 0 (room - 1) t) (λ i r. read_on (mark (codes "]") r) (λ q s. Found (Indexed n p i q) s)))
+  bracket_local room n p = after_local (inner 0 (room - 1)) (λ i r. read_on (mark (codes "]") r) (λ q s. Found (Indexed n p i q) s)) (inner_local 0 (room - 1)) (λ i. closed_local (codes "]") (Indexed n p i))
 
   abbrev suffixed : ℕ → Name → List Symbol → Read Formula
   suffixed room n t = named inner others room n t (behind (codes "[") t)
@@ -80,7 +80,7 @@ module _ (inner : Reader) (inner_local : (k room : ℕ) → IsLocal (inner k roo
     where
       by : (b : Bool) → text_eq text (codes "[") ≡ b → Locally (suffixed room n) (Symbol.Fixed at text ∷ ss) (named inner others room n (Symbol.Fixed at text ∷ ss) (if◌then◌else◌ {A = Option (ℕ × List Symbol)} b (Some (at, ss)) None))
       by true e =
-          tested (nat_le room 1) (suffixed room n) (λ t. after (inner 0 (room - 1) t) (λ i r. after (mark (codes "]") r) (λ q s. Found (Indexed n at i q) s))) (Symbol.Fixed at text) ss
+          tested (nat_le room 1) (suffixed room n) (λ t. read_on (inner 0 (room - 1) t) (λ i r. read_on (mark (codes "]") r) (λ q s. Found (Indexed n at i q) s))) (Symbol.Fixed at text) ss
           (λ t. ap (λ b. named inner others room n (Symbol.Fixed at text ∷ t) (if◌then◌else◌ {A = Option (ℕ × List Symbol)} b (Some (at, t)) None)) e) (bracket_local room n at)
       by false e =
           agree_local (suffixed room n) (called room n) (Symbol.Fixed at text) ss (called room n (Symbol.Fixed at text ∷ ss))
@@ -116,7 +116,7 @@ module _ (inner : Reader) (inner_local : (k room : ℕ) → IsLocal (inner k roo
     abbrev goes : ℕ → ℕ → Formula → List Symbol → Read Formula
     goes k room left t = turn inner next room left t (operator k t)
 
-    right_local : (room : ℕ) (left : Formula) (op : Bin) (at : ℕ) → IsLocal (λ t. after (inner (suc (binary_level op)) (room - 1) t) (λ right s. next (Binary op left at right) s))
+    right_local : (room : ℕ) (left : Formula) (op : Bin) (at : ℕ) → IsLocal (λ t. read_on (inner (suc (binary_level op)) (room - 1) t) (λ right s. next (Binary op left at right) s))
     right_local room left op at =
         after_local (inner (suc (binary_level op)) (room - 1)) (λ right s. next (Binary op left at right) s) (inner_local (suc (binary_level op)) (room - 1)) (λ right. next_local (Binary op left at right))
 
@@ -128,7 +128,7 @@ module _ (inner : Reader) (inner_local : (k room : ℕ) → IsLocal (inner k roo
         by : (b : Bool) → nat_le k (binary_level op) ≡ b
             → Locally (goes k room left) (Symbol.Fixed at text ∷ ss) (turn inner next room left (Symbol.Fixed at text ∷ ss) (if◌then◌else◌ {A = Option (Bin × ℕ × List Symbol)} b (Some (op, at, ss)) None))
         by true f =
-            tested (nat_le room (depth left)) (goes k room left) (λ t. after (inner (suc (binary_level op)) (room - 1) t) (λ right s. next (Binary op left at right) s)) (Symbol.Fixed at text) ss
+            tested (nat_le room (depth left)) (goes k room left) (λ t. read_on (inner (suc (binary_level op)) (room - 1) t) (λ right s. next (Binary op left at right) s)) (Symbol.Fixed at text) ss
             (λ t. ap (λ o. turn inner next room left (Symbol.Fixed at text ∷ t) (of_level k at t o)) e
             ∙ ap (λ b. turn inner next room left (Symbol.Fixed at text ∷ t) (if◌then◌else◌ {A = Option (Bin × ℕ × List Symbol)} b (Some (op, at, t)) None)) f)
             (right_local room left op at)

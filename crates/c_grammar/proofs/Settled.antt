@@ -8,7 +8,7 @@ use Rattle.c_tree.specs.Formula.{Formula, Binary}
 use Rattle.c_tree.specs.Spell.{binary_mark}
 use Rattle.c_tree.specs.Level.{binary_level, unary_level}
 use Rattle.c_tree.specs.Depth.{depth}
-use Rattle.readings.specs.Reading.{Read, after, looked_up, behind, mark}
+use Rattle.readings.specs.Reading.{Read, read_on, looked_up, behind, mark}
 use Rattle.c_grammar.specs.Reading.{operator, Beginning, Opening, Operation, beginnings, Reader, Others, others_from, arguments, call_from, call, named, paren, operation, begun, operand, turn, climb, more, further, reading}
 use Rattle.readings.proofs.Symbols.{behind_is}
 use Rattle.c_grammar.proofs.Symbols.{operator_is}
@@ -73,7 +73,7 @@ turn_ends inner next k room left ss right goes None e = omega arith
 turn_ends inner next k room left ss right goes (Some (op, at, rest)) e =
     let l = shorter ss rest (Symbol.Fixed at (binary_mark op)) (operator_is k ss op at rest e).spelled in
     let both = after_ends (length ss) (inner (suc (binary_level op)) (room - 1) rest) (λ right s. next (Binary op left at right) s) (right (suc (binary_level op)) (room - 1) rest l) (λ y s h. goes (Binary op left at y) s h) in
-    if_ends (suc (length ss)) (nat_le room (depth left)) ss _ (ends_more (length ss) (suc (length ss)) (after (inner (suc (binary_level op)) (room - 1) rest) (λ right s. next (Binary op left at right) s)) (omega arith) both)
+    if_ends (suc (length ss)) (nat_le room (depth left)) ss _ (ends_more (length ss) (suc (length ss)) (read_on (inner (suc (binary_level op)) (room - 1) rest) (λ right s. next (Binary op left at right) s)) (omega arith) both)
 
 -- ---- expressions
 mutual

@@ -9,7 +9,7 @@ use Rattle.c_tree.specs.Formula.{Formula, Further, Prefix, Numeral, Named, Index
 use Rattle.c_tree.specs.Spell.{formula_spelling, further_spelling, binary_mark, prefix_mark}
 use Rattle.c_tree.specs.Level.{level, binary_level, unary_level, IsLeveled, IsLeveledFurther}
 use Rattle.c_tree.specs.Depth.{depth, further_depth}
-use Rattle.readings.specs.Reading.{Read, Found, Stuck, after, looked_up, behind, mark}
+use Rattle.readings.specs.Reading.{Read, Found, Stuck, read_on, looked_up, behind, mark}
 use Rattle.c_grammar.specs.Reading.{operator, Beginning, Opening, Operation, beginnings, Reader, Others, others_from, call_from, call, named, paren, operation, begun, operand, turn, climb, more, further, HasNoOperator, HasNoIndex, IsEnd}
 use Rattle.readings.proofs.Symbols.{above, within, behind_is, mark_is}
 use Rattle.c_grammar.proofs.Symbols.{stops_more, stops_unary, below_unary, operator_is, beginning_is, beginning_text, tight_of}
@@ -184,11 +184,11 @@ module _ (inner : Reader) (sound : IsSound inner) (others : Others) (others_soun
       ⊎_elim
       (λ (lt : depth left < room).
       let inside : Read Formula = inner (suc (binary_level op)) (room - 1) behind_op in
-      let a = after_found inside (λ right s. next (Binary op left at right) s) y rest (sym (above room (depth left) (Stuck here) (after inside (λ right s. next (Binary op left at right) s)) lt) ∙ e) in
+      let a = after_found inside (λ right s. next (Binary op left at right) s) y rest (sym (above room (depth left) (Stuck here) (read_on inside (λ right s. next (Binary op left at right) s)) lt) ∙ e) in
       let x = sound (suc (binary_level op)) (room - 1) behind_op a.0 a.1 (omega (arith, below_unary op)) (omega (arith, one_node left)) a.2 in
       let again = turned k room left here op at behind_op a.0 a.1 r lt i x in
       subst (λ ss. Sound k room ss y rest) again.1 (goes (Binary op left at a.0) a.1 again.0 a.3))
-      (λ (deep : room ≤ depth left). stuck_is_not_found here y rest (sym (within room (depth left) (Stuck here) (after (inner (suc (binary_level op)) (room - 1) behind_op) (λ right s. next (Binary op left at right) s)) deep) ∙ e))
+      (λ (deep : room ≤ depth left). stuck_is_not_found here y rest (sym (within room (depth left) (Stuck here) (read_on (inner (suc (binary_level op)) (room - 1) behind_op) (λ right s. next (Binary op left at right) s)) deep) ∙ e))
       (cases_lt (depth left) room)
 
 -- ---- expressions

@@ -2,7 +2,7 @@
 use Rattle.std.proofs.Common.{◌≡◌, ℕ, suc, ◌+◌, List, ◌∷◌, ◌++◌, length, Option, Some, None, refl, ap, sym, ◌∙◌, arith, append_assoc, append-nil, ⊎_elim, Bool, true, false, IsTrue}
 use Rattle.std.specs.Prelude.{IsFalse}
 use Rattle.readings.specs.Symbol.{Symbol}
-use Rattle.readings.specs.Reading.{Found, Stuck, after, behind}
+use Rattle.readings.specs.Reading.{Found, Stuck, read_on, behind}
 use Rattle.readings.specs.Readings.{Reading, ◌>>>◌, optional, optional_from}
 use Rattle.readings.specs.Lawful.{Begins, Reads, IsReading, Settles, Eventually, optional_spelling, optional_good, optional_ends}
 use Rattle.readings.proofs.Symbols.{behind_is, behind_front, none_is_none}
@@ -118,13 +118,13 @@ module _ {A B : Type 0} (text : List ℕ) (leaves_open : A → Bool) (spelled : 
         })
         (λ i. found_not_stuck (h.0, i.0) i.1 rest i.3)
         (after_stuck (tail_reads n h.1) (λ y s. Found (h.0, y) s) rest h.3))
-        (after_stuck (first n ss) (λ x s. after (tail_reads n s) (λ y t. Found (x, y) t)) rest e)
+        (after_stuck (first n ss) (λ x s. read_on (tail_reads n s) (λ y t. Found (x, y) t)) rest e)
 
     tailed_settled : (ss : List Symbol) → Settles (length ss) (λ n. (first >>> tail_reads) n ss)
     tailed_settled ss =
-        settles_behind (length ss) (λ n. first n ss) (λ n x s. after (tail_reads n s) (λ y t. Found (x, y) t)) (l.law.settled ss)
+        settles_behind (length ss) (λ n. first n ss) (λ n x s. read_on (tail_reads n s) (λ y t. Found (x, y) t)) (l.law.settled ss)
         (λ x s e.
-        settles_later (length s) (length ss) (λ n. after (tail_reads n s) (λ y t. Found (x, y) t))
+        settles_later (length s) (length ss) (λ n. read_on (tail_reads n s) (λ y t. Found (x, y) t))
         (no_longer ss (spelled x) s (l.law.sound (suc (length ss)) ss x s e).whole)
         (settles_behind (length s) (λ n. tail_reads n s) (λ n y t. Found (x, y) t) (m.law.settled s)
         (λ y t i. settles_at_once (length s) (λ n. Found (x, y) t) (Found (x, y) t) tt (λ n. refl))))

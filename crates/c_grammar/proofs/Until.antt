@@ -2,7 +2,7 @@
 use Rattle.std.proofs.Common.{◌≡◌, ℕ, zero, suc, ◌+◌, ◌<◌, ◌≤◌, List, [], ◌∷◌, ◌++◌, length, length-append, Option, Some, None, refl, ap, sym, ◌∙◌, subst, arith, append_assoc, append-nil, ⊎_elim}
 use Rattle.std.specs.Prelude.{flat_map}
 use Rattle.readings.specs.Symbol.{Symbol, fixed}
-use Rattle.readings.specs.Reading.{Read, Found, Stuck, after, behind}
+use Rattle.readings.specs.Reading.{Read, Found, Stuck, read_on, behind}
 use Rattle.readings.specs.Readings.{Reading}
 use Rattle.readings.specs.Lawful.{IsLocal, Settles, Eventually, Begins, Reads, IsLawful, IsReading, Anywhere}
 use Rattle.readings.specs.Whole.{Goods}
@@ -69,7 +69,7 @@ module _ {A : Type 0} (text : List ℕ) (spelled : A → List Symbol) (good : A 
     until_local : (n : ℕ) → IsLocal (until text reads n)
     until_local zero ss = unread_locally (until text reads zero) ss
     until_local (suc n) ss =
-        by_mark_local text (λ m s. until text reads (suc n) s) (λ m s. after (reads (suc n) s) (λ x t. after (until text reads n t) (λ (xs, at) u. Found (x ∷ xs, at) u))) (λ at m s. Found ([], at) s)
+        by_mark_local text (λ m s. until text reads (suc n) s) (λ m s. read_on (reads (suc n) s) (λ x t. read_on (until text reads n t) (λ (xs, at) u. Found (x ∷ xs, at) u))) (λ at m s. Found ([], at) s)
         (λ m s i. ap (until_from reads (λ t. until text reads n t) (suc n) s) i) (λ m s at rest i. ap (until_from reads (λ t. until text reads n t) (suc n) s) i)
         (λ m. after_local (reads (suc n)) _ (l.local (suc n)) (λ x. after_local (until text reads n) _ (until_local n) (λ q. found_local (x ∷ q.0, q.1))))
         (λ at m. found_local ([], at)) n ss
@@ -108,7 +108,7 @@ module _ {A : Type 0} (text : List ℕ) (spelled : A → List Symbol) (good : A 
             })
             (λ g. found_not_stuck (h.0 ∷ g.0.0, g.0.1) g.1 rest g.3)
             (after_stuck (until text reads n h.1) (λ (xs, at) u. Found (h.0 ∷ xs, at) u) rest h.3))
-            (after_stuck (reads (suc n) ss) (λ x t. after (until text reads n t) (λ (xs, at) u. Found (x ∷ xs, at) u)) rest f)
+            (after_stuck (reads (suc n) ss) (λ x t. read_on (until text reads n t) (λ (xs, at) u. Found (x ∷ xs, at) u)) rest f)
 
     -- what stands behind a thing is shorter
     behind_one : (x : A) (s t : List Symbol) → good x → s ≡ spelled x ++ t → length t < length s
@@ -143,9 +143,9 @@ module _ {A : Type 0} (text : List ℕ) (spelled : A → List Symbol) (good : A 
         from (suc n) lt = ap (until_from reads (λ t. until text reads n t) (suc n) ss) i
     settled_one ss None i others = record { comes = turn.comes; told = turn.told; is = from }
       where
-        turn : Settles {A = List A × ℕ} (length ss) (λ n. after (reads n ss) (λ x t. after (until text reads (fewer n) t) (with_one x)))
+        turn : Settles {A = List A × ℕ} (length ss) (λ n. read_on (reads n ss) (λ x t. read_on (until text reads (fewer n) t) (with_one x)))
         turn =
-            settles_behind (length ss) (λ n. reads n ss) (λ n x t. after (until text reads (fewer n) t) (with_one x)) (l.settled ss)
+            settles_behind (length ss) (λ n. reads n ss) (λ n x t. read_on (until text reads (fewer n) t) (with_one x)) (l.settled ss)
             (λ x t e.
             let r = l.sound (suc (length ss)) ss x t e in
             let less = behind_one x ss t r.fits r.whole in

@@ -9,7 +9,7 @@ use Rattle.c_tree.specs.Formula.{Formula, Further, Prefix, Numeral, Named, Index
 use Rattle.c_tree.specs.Spell.{formula_spelling, further_spelling, binary_mark, prefix_mark}
 use Rattle.c_tree.specs.Level.{level, binary_level, unary_level, IsLeveledFurther}
 use Rattle.c_tree.specs.Depth.{depth, further_depth}
-use Rattle.readings.specs.Reading.{Read, Found, Stuck, after, looked_up, behind, mark, with_room}
+use Rattle.readings.specs.Reading.{Read, Found, Stuck, read_on, looked_up, behind, mark, with_room}
 use Rattle.c_grammar.specs.Reading.{operator, Beginning, Opening, Operation, beginnings, Reader, Others, others_from, arguments, call_from, call, named, paren, operation, begun, operand, turn, climb, more, further, IsGood}
 use Rattle.readings.proofs.Symbols.{above, within, behind_is}
 use Rattle.c_grammar.proofs.Symbols.{stops_more, stops_unary, below_unary, operator_is, beginning_is, tight_of}
@@ -110,7 +110,7 @@ module _ (inner : Reader) (sound : IsSound inner) (viable : IsViable inner) (oth
       → ViableFurther room ss rest
   others_from_viable room ss rest None some i e = found_not_stuck NoMore ss rest e
   others_from_viable room ss rest (Some (comma, inside)) some i e =
-      let goes = after_goes (inner 0 room) (λ x s. after (others room s) (λ xs t. Found (More comma x xs) t)) (IsPart 0 room) (λ x. Then (ArePart room) (λ xs. IsDone (More comma x xs)))
+      let goes = after_goes (inner 0 room) (λ x s. read_on (others room s) (λ xs t. Found (More comma x xs) t)) (IsPart 0 room) (λ x. Then (ArePart room) (λ xs. IsDone (More comma x xs)))
       (part_goes 0 room (omega arith) some)
       (λ x. after_goes (others room) (λ xs t. Found (More comma x xs) t) (ArePart room) (λ xs. IsDone (More comma x xs)) (others_goes room some) (λ xs. done_goes (More comma x xs))) in
       let a = goes.stuck inside rest e in
@@ -194,8 +194,8 @@ module _ (inner : Reader) (sound : IsSound inner) (viable : IsViable inner) (oth
   named_viable : (room : ℕ) (n : Name) (ss rest : List Symbol) (o : Option (ℕ × List Symbol)) → 1 ≤ room → behind (codes "[") ss ≡ o → named inner others room n ss o ≡ Stuck rest → Viable unary_level room (Symbol.Named n.at n.text ∷ ss) rest
   named_viable room n ss rest None some i e = call_viable room n ss rest (behind (codes "(") ss) some refl e
   named_viable room n ss rest (Some (p, inside)) some i e =
-      let next : Formula → List Symbol → Read Formula = λ x r. after (mark (codes "]") r) (λ q s. Found (Indexed n p x q) s) in
-      let reads : List Symbol → Read Formula = λ t. after (inner 0 (room - 1) t) next in
+      let next : Formula → List Symbol → Read Formula = λ x r. read_on (mark (codes "]") r) (λ q s. Found (Indexed n p x q) s) in
+      let reads : List Symbol → Read Formula = λ t. read_on (inner 0 (room - 1) t) next in
       ⊎_elim
       (λ h. record { front = Symbol.Named n.at n.text ∷ []; further = []; expression = Named n; left = ap (λ t. Symbol.Named n.at n.text ∷ t) h; good = record { leveled = tt; at_least = lit≤ tt; shallow = some }; spelled = refl })
       (λ h.
@@ -268,9 +268,9 @@ module _ (inner : Reader) (sound : IsSound inner) (viable : IsViable inner) (oth
       let x = sound (suc (binary_level op)) (room - 1) behind_op h.0 h.1 (omega (arith, below_unary op)) (omega (arith, one_node left)) h.2 in
       let again = turned k room left here op at behind_op h.0 h.1 r lt i x in
       subst (λ ss. Viable k room ss rest) again.1 (goes (Binary op left at h.0) h.1 again.0 h.3))
-      (after_stuck inside on rest (sym (above room (depth left) (Stuck here) (after inside on) lt) ∙ e)))
+      (after_stuck inside on rest (sym (above room (depth left) (Stuck here) (read_on inside on) lt) ∙ e)))
       (λ (deep : room ≤ depth left).
-      let stuck = stuck_is here rest (sym (within room (depth left) (Stuck here) (after inside on) deep) ∙ e) in
+      let stuck = stuck_is here rest (sym (within room (depth left) (Stuck here) (read_on inside on) deep) ∙ e) in
       record {
         front = formula_spelling left;
         further = [];

@@ -2,7 +2,7 @@
 use Rattle.std.specs.Prelude.{ℕ, suc, ◌≤◌, ◌≡◌, List, Option, Some, None, codes}
 use Rattle.c_tree.specs.declared.names.Name.{Name}
 use Rattle.readings.specs.Symbol.{Symbol}
-use Rattle.readings.specs.Reading.{Read, Found, after, behind}
+use Rattle.readings.specs.Reading.{Read, Found, read_on, behind}
 use Rattle.readings.specs.Readings.{Reading, ◌>>>◌, made, sign}
 use Rattle.c_tree.specs.Formula.{Formula}
 use Rattle.c_tree.specs.Statement.{Variable, Scalar, Initial, Array, Declaration}
@@ -41,7 +41,7 @@ variable_behind room x n ss = initial_from room x n ss (behind (codes "=") ss)
 
 -- a variable whose initial value is of at most this depth: `NAME`, `NAME = e` or `NAME[n]`
 abbrev pub variable : ℕ → Reading Variable
-variable room n ss = after (name n ss) (λ x s. variable_behind room x n s)
+variable room n ss = read_on (name n ss) (λ x s. variable_behind room x n s)
 
 -- further variables behind commas, and the semicolon
 abbrev pub further_variables : ℕ → Reading (List (ℕ × Variable) × ℕ)

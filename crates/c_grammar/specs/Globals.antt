@@ -5,7 +5,7 @@ use Rattle.c_tree.specs.declared.program.SNum.{SNum}
 use Rattle.c_tree.specs.declared.program.GVar.{GVar}
 use Rattle.c_tree.specs.declared.program.GVar.TheVariants as gvars
 use Rattle.readings.specs.Symbol.{Symbol}
-use Rattle.readings.specs.Reading.{Read, after, behind}
+use Rattle.readings.specs.Reading.{Read, read_on, behind}
 use Rattle.readings.specs.Readings.{Reading, ◌>>>◌, made, sign, optional}
 use Rattle.c_grammar.specs.Words.{name, number}
 use Rattle.c_grammar.specs.Until.{until}
@@ -46,7 +46,7 @@ global_behind x n ss = global_from x n ss (behind (codes "[") ss)
 
 -- a global variable: `NAME`, `NAME = n`, `NAME[n]` or `NAME[n] = {n, n}`
 abbrev pub global_variable : Reading GVar
-global_variable n ss = after (name n ss) (λ x s. global_behind x n s)
+global_variable n ss = read_on (name n ss) (λ x s. global_behind x n s)
 
 -- further ones behind commas, and the semicolon
 abbrev pub further_globals : Reading (List (ℕ × GVar) × ℕ)

@@ -4,7 +4,7 @@ use Rattle.c_tree.specs.declared.names.Name.{Name}
 use Rattle.c_tree.specs.declared.operator.Bin.{Bin}
 use Rattle.c_tree.specs.declared.operator.Bin.TheVariants as bin
 use Rattle.readings.specs.Symbol.{Symbol}
-use Rattle.readings.specs.Reading.{Read, Found, Stuck, Unread, after, looked_up, behind, mark, with_room}
+use Rattle.readings.specs.Reading.{Read, Found, Stuck, Unread, read_on, looked_up, behind, mark, with_room}
 use Rattle.c_tree.specs.Formula.{Prefix, Formula, Further, Numeral, Named, Indexed, Called, CalledWith, Paren, Unary, Binary, NoMore, More}
 use Rattle.c_tree.specs.Level.{binary_level, unary_level, level, IsLeveled}
 use Rattle.c_tree.specs.Depth.{depth}
@@ -55,12 +55,12 @@ Others = ℕ → List Symbol → Read Further
 -- the further argument behind a comma, and those behind it; none where no comma is next
 abbrev pub others_from : Reader → Others → ℕ → List Symbol → Option (ℕ × List Symbol) → Read Further
 others_from inner others room here None = Found NoMore here
-others_from inner others room here (Some (comma, rest)) = after (inner 0 room rest) (λ x s. after (others room s) (λ xs t. Found (More comma x xs) t))
+others_from inner others room here (Some (comma, rest)) = read_on (inner 0 room rest) (λ x s. read_on (others room s) (λ xs t. Found (More comma x xs) t))
 
 -- the arguments of a call, of which there is one or more, and `)`
 abbrev pub arguments : Reader → Others → ℕ → Name → ℕ → List Symbol → Read Formula
 arguments inner others room n p ss =
-    after (inner 0 (room - 1) ss) (λ x r. after (others (room - 1) r) (λ xs t. after (mark (codes ")") t) (λ q u. Found (CalledWith n p x xs q) u)))
+    read_on (inner 0 (room - 1) ss) (λ x r. read_on (others (room - 1) r) (λ xs t. read_on (mark (codes ")") t) (λ q u. Found (CalledWith n p x xs q) u)))
 
 -- what stands behind `NAME (`: the last is what stands behind `)`, if that is next. An argument is a further node.
 abbrev pub call_from : Reader → Others → ℕ → Name → ℕ → List Symbol → Option (ℕ × List Symbol) → Read Formula
@@ -76,15 +76,15 @@ call inner others room n ss (Some (p, rest)) = call_from inner others room n p r
 abbrev pub named : Reader → Others → ℕ → Name → List Symbol → Option (ℕ × List Symbol) → Read Formula
 named inner others room n ss None = call inner others room n ss (behind (codes "(") ss)
 named inner others room n ss (Some (p, rest)) =
-    with_room room ss (after (inner 0 (room - 1) rest) (λ i r. after (mark (codes "]") r) (λ q s. Found (Indexed n p i q) s)))
+    with_room room ss (read_on (inner 0 (room - 1) rest) (λ i r. read_on (mark (codes "]") r) (λ q s. Found (Indexed n p i q) s)))
 
 -- `( e )`, behind its first symbol
 abbrev pub paren : Reader → ℕ → ℕ → List Symbol → Read Formula
-paren inner room at ss = after (inner 0 (room - 1) ss) (λ x r. after (mark (codes ")") r) (λ q s. Found (Paren at x q) s))
+paren inner room at ss = read_on (inner 0 (room - 1) ss) (λ x r. read_on (mark (codes ")") r) (λ q s. Found (Paren at x q) s))
 
 -- an operator's one operand, which has no operator of two outermost
 abbrev pub operation : Reader → ℕ → Prefix → ℕ → List Symbol → Read Formula
-operation inner room op at ss = after (inner unary_level (room - 1) ss) (λ x s. Found (Unary op at x) s)
+operation inner room op at ss = read_on (inner unary_level (room - 1) ss) (λ x s. Found (Unary op at x) s)
 
 -- what begins with a mark; `here` are the symbols from that one on
 abbrev pub begun : Reader → ℕ → List Symbol → ℕ → List Symbol → Option Beginning → Read Formula
@@ -105,14 +105,14 @@ operand inner others room (Symbol.Quoted at text ∷ ss) = Stuck (Symbol.Quoted 
 abbrev pub turn : Reader → (Formula → List Symbol → Read Formula) → ℕ → Formula → List Symbol → Option (Bin × ℕ × List Symbol) → Read Formula
 turn inner next room left here None = Found left here
 turn inner next room left here (Some (op, at, rest)) =
-    if nat_le room (depth left) then Stuck here else after (inner (suc (binary_level op)) (room - 1) rest) (λ right s. next (Binary op left at right) s)
+    if nat_le room (depth left) then Stuck here else read_on (inner (suc (binary_level op)) (room - 1) rest) (λ right s. next (Binary op left at right) s)
 
 abbrev mutual
   -- an expression whose outermost level is k or a stronger one and whose depth is at most room, as long as it goes, by at most
   -- n calls below one another
   pub climb : ℕ → Reader
   climb zero k room ss = Unread
-  climb (suc n) k room ss = after (operand (climb n) (further n) room ss) (λ x rest. more n k room x rest)
+  climb (suc n) k room ss = read_on (operand (climb n) (further n) room ss) (λ x rest. more n k room x rest)
 
   -- the operators of level k or a stronger one behind the expression left, with their right parts
   pub more : ℕ → ℕ → ℕ → Formula → List Symbol → Read Formula

@@ -1,7 +1,7 @@
 -- Readings of lists that end where a mark is next, and of what may have a tail behind a mark.
 use Rattle.std.specs.Prelude.{◌≡◌, ℕ, zero, suc, Bool, IsTrue, IsFalse, List, [], ◌∷◌, ◌++◌, Option, Some, None, flat_map}
 use Rattle.readings.specs.Symbol.{Symbol, fixed}
-use Rattle.readings.specs.Reading.{Read, Found, Unread, after, behind}
+use Rattle.readings.specs.Reading.{Read, Found, Unread, read_on, behind}
 use Rattle.readings.specs.Readings.{Reading}
 use Rattle.readings.specs.Lawful.{optional_spelling}
 use Rattle.readings.specs.Whole.{Goods}
@@ -10,7 +10,7 @@ use Rattle.readings.specs.Whole.{Goods}
 
 -- where the mark is next the list ends, and else a thing and those behind it are read
 abbrev pub until_from : {A : Type 0} → Reading A → (List Symbol → Read (List A × ℕ)) → ℕ → List Symbol → Option (ℕ × List Symbol) → Read (List A × ℕ)
-until_from reads others n ss None = after (reads n ss) (λ x s. after (others s) (λ (xs, at) t. Found (x ∷ xs, at) t))
+until_from reads others n ss None = read_on (reads n ss) (λ x s. read_on (others s) (λ (xs, at) t. Found (x ∷ xs, at) t))
 until_from reads others n ss (Some (at, rest)) = Found ([], at) rest
 
 -- things one behind the other up to this mark, which is read too

@@ -2,7 +2,7 @@
 use Rattle.std.proofs.Common.{◌≡◌, ◌∙◌, ap, refl, sym, subst, ℕ, inl, inr, List, [], ◌∷◌, ◌++◌, length, take, IsTrue, arith, take_at}
 use Rattle.std.proofs.lemmas.Bool.{both_ways}
 use Rattle.nml_lex.specs.Form.{is_end}
-use Rattle.nml_lex.specs.Lexed.{Part, Space, Word, Piece, bytes_of, pieces, size}
+use Rattle.nml_lex.specs.Lexed.{Part, Space, Word, Lexeme, bytes_of, lexemes, size}
 use Rattle.nml_lex.proofs.Parts.{end_halts}
 use Rattle.nml_lex.proofs.Spaces.{Same, same_space}
 use Rattle.nml_lex.proofs.Words.{same_fronts}
@@ -70,12 +70,12 @@ stuck_is_last l bytes apart s = record { none = stuck_part l bytes apart s }
 -- ---- the law
 
 -- the three clauses, each by the two lists of parts
-pub one : (l : Lexicon) (bytes : List ℕ) (ps qs : List Piece) → Apart l → HasTokens l bytes ps → HasTokens l bytes qs → ps ≡ qs
+pub one : (l : Lexicon) (bytes : List ℕ) (ps qs : List Lexeme) → Apart l → HasTokens l bytes ps → HasTokens l bytes qs → ps ≡ qs
 one l bytes ps qs apart h g =
     let m = same_parts l bytes h.parts g.parts h.left g.left apart h.begins g.begins (end_is_last l h.left apart h.ends) (end_is_last l g.left apart g.ends) in
-    h.is ∙ ap (pieces 0) m.parts ∙ sym g.is
+    h.is ∙ ap (lexemes 0) m.parts ∙ sym g.is
 
-pub never : (l : Lexicon) (bytes : List ℕ) (ps : List Piece) (at : ℕ) → Apart l → HasTokens l bytes ps → IsHaltedAt l bytes at → ⊥
+pub never : (l : Lexicon) (bytes : List ℕ) (ps : List Lexeme) (at : ℕ) → Apart l → HasTokens l bytes ps → IsHaltedAt l bytes at → ⊥
 never l bytes ps at apart h g =
     let m = same_parts l bytes h.parts g.parts h.left g.left apart h.begins g.begins (end_is_last l h.left apart h.ends) (stuck_is_last l g.left apart g.stuck) in
     both_ways (is_end g.left) g.stuck.no_end (sym (ap is_end m.left) ∙ h.ends)

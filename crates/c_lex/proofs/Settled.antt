@@ -4,7 +4,7 @@ use Rattle.std.proofs.lemmas.Bool.{both_ways, or_left}
 use Rattle.nk_base.specs.Byte.{is_gap}
 use Rattle.nml_lex.specs.Cut.{Begins, BeginsNone}
 use Rattle.nml_lex.specs.Form.{is_end, is_space, is_token}
-use Rattle.nml_lex.specs.Lexed.{Part, Space, Word, Piece, bytes_of, pieces, size}
+use Rattle.nml_lex.specs.Lexed.{Part, Space, Word, Lexeme, bytes_of, lexemes, size}
 use Rattle.nml_lex.specs.Lexed as nml
 use Rattle.nml_lex.proofs.Parts.{end_halts}
 use Rattle.nml_lex.proofs.Settled as nml_settled
@@ -92,9 +92,9 @@ parted l (suc n) bytes le = at_end (parted l n) (is_end bytes) refl
     at_end more false h = at_space more h (space_cut bytes)
 
 -- the tokens among them, or the place
-answered : (l : Lexicon) (bytes : List ℕ) → Parted l bytes → ((ps : List Piece) × HasTokens l bytes ps) ⊎ ((at : ℕ) × IsHaltedAt l bytes at)
-answered l bytes (Whole parts left b h) = inl (pieces 0 parts, record { parts = parts; left = left; begins = b; ends = h; is = refl })
+answered : (l : Lexicon) (bytes : List ℕ) → Parted l bytes → ((ps : List Lexeme) × HasTokens l bytes ps) ⊎ ((at : ℕ) × IsHaltedAt l bytes at)
+answered l bytes (Whole parts left b h) = inl (lexemes 0 parts, record { parts = parts; left = left; begins = b; ends = h; is = refl })
 answered l bytes (Halted parts left b h) = inr (size parts, record { parts = parts; left = left; begins = b; stuck = h; is = refl })
 
-pub some : (l : Lexicon) (bytes : List ℕ) → ((ps : List Piece) × HasTokens l bytes ps) ⊎ ((at : ℕ) × IsHaltedAt l bytes at)
+pub some : (l : Lexicon) (bytes : List ℕ) → ((ps : List Lexeme) × HasTokens l bytes ps) ⊎ ((at : ℕ) × IsHaltedAt l bytes at)
 some l bytes = answered l bytes (parted l (length bytes) bytes (omega arith))

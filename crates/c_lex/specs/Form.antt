@@ -16,8 +16,8 @@ abbrev pub is_number : List ℕ → Bool
 is_number text = is_decimal text || is_hexadecimal text
 
 -- what a number is worth
-abbrev pub number_of : List ℕ → ℕ
-number_of text = if is_hexadecimal text then digits_value 16 (drop 2 text) else digits_value 10 text
+abbrev pub number_worth : List ℕ → ℕ
+number_worth text = if is_hexadecimal text then digits_value 16 (drop 2 text) else digits_value 10 text
 
 -- the words that a program keeps for itself; none is a name
 abbrev pub keywords : List (List ℕ)
@@ -65,4 +65,4 @@ is_token text = is_name text || (is_number text || is_mark text)
 
 -- a word has at most 64 characters, and a number is at most 2^64-1
 abbrev pub is_within : List ℕ → Bool
-is_within text = if is_name text then nat_le (length text) 64 else if is_number text then nat_lt (number_of text) (2 ^ 64) else true
+is_within text = if is_name text then nat_le (length text) 64 else if is_number text then nat_lt (number_worth text) (2 ^ 64) else true

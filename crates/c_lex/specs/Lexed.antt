@@ -1,6 +1,6 @@
 -- The tokens of a program's bytes, and where bytes have none.
 use Rattle.std.specs.Prelude.{ℕ, List}
-use Rattle.nml_lex.specs.Lexed.{Piece}
+use Rattle.nml_lex.specs.Lexed.{Lexeme}
 use Rattle.c_lex.specs.Form.{is_token, is_within}
 use Rattle.c_lex.specs.Lexing.{Lexicon, HasTokens, IsHaltedAt}
 use Rattle.c_lex.specs.Lexing as lexing
@@ -16,8 +16,8 @@ abbrev pub longest : List ℕ → ℕ
 longest bytes = lexing.longest c bytes
 
 -- the bytes have these tokens, and nothing else but what separates them
-abbrev pub HasPieces : List ℕ → List Piece → Type 0
-HasPieces bytes ps = HasTokens c bytes ps
+abbrev pub HasLexemes : List ℕ → List Lexeme → Type 0
+HasLexemes bytes ps = HasTokens c bytes ps
 
 -- behind tokens and what separates them the bytes are stuck, at this place
 abbrev pub IsStuckAt : List ℕ → ℕ → Type 0

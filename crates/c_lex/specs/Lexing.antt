@@ -1,7 +1,7 @@
 -- The tokens of bytes in any language that has the blanks and comments of a description, and where bytes have none.
 use Rattle.std.specs.Prelude.{◌≡◌, ℕ, ◌+◌, ◌≤◌, drop, zero, suc, ◌⊎◌, ◌<◌, ◌&&◌, ◌||◌, ◌==◌, Bool, false, List, [], ◌∷◌, ◌++◌, length, take, if◌then◌else◌, IsTrue, IsFalse}
 use Rattle.nml_lex.specs.Form.{is_space, is_end}
-use Rattle.nml_lex.specs.Lexed.{Piece, Part, Space, Word, bytes_of, pieces, size}
+use Rattle.nml_lex.specs.Lexed.{Lexeme, Part, Space, Word, bytes_of, lexemes, size}
 
 -- what a language's tokens are, and which of them are within their limits
 pub record Lexicon : Type 0 where
@@ -40,12 +40,12 @@ BeginsWith l bytes [] left = bytes ≡ left
 BeginsWith l bytes (part ∷ parts) left = (rest : List ℕ) × (bytes ≡ bytes_of part ++ rest) × IsPart l part rest × BeginsWith l rest parts left
 
 -- the bytes have these tokens, and nothing else but what separates them
-pub record HasTokens (l : Lexicon) (bytes : List ℕ) (ps : List Piece) : Type 0 where
+pub record HasTokens (l : Lexicon) (bytes : List ℕ) (ps : List Lexeme) : Type 0 where
   pub parts : List Part
   pub left : List ℕ
   pub begins : BeginsWith l bytes parts left
   pub ends : IsTrue (is_end left)
-  pub is : ps ≡ pieces 0 parts
+  pub is : ps ≡ lexemes 0 parts
 
 -- The byte in front begins no token and no space, or the longest token in front is over its limit.
 pub record IsStuck (l : Lexicon) (bytes : List ℕ) : Type 0 where
@@ -63,6 +63,6 @@ pub record IsHaltedAt (l : Lexicon) (bytes : List ℕ) (at : ℕ) : Type 0 where
 
 -- Each of the tokens has a byte, is what the bytes have at its place, and begins no sooner than the one before it ends; the first begins no
 -- sooner than here.
-abbrev pub StandFrom : List ℕ → ℕ → List Piece → Type 0
+abbrev pub StandFrom : List ℕ → ℕ → List Lexeme → Type 0
 StandFrom bytes from [] = Unit {0}
 StandFrom bytes from (p ∷ ps) = (from ≤ p.at) × (0 < length p.text) × (take (length p.text) (drop p.at bytes) ≡ p.text) × StandFrom bytes (p.at + length p.text) ps

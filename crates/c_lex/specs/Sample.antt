@@ -1,10 +1,10 @@
 -- Worked examples of the definitions, each by computation.
 use Rattle.std.specs.Prelude.{◌≡◌, ◌++◌, ℕ, List, true, false, codes, refl, [], ◌∷◌, length, IsTrue}
 use Rattle.nml_lex.specs.Form.{is_end, is_space}
-use Rattle.nml_lex.specs.Lexed.{Piece, Space, Word}
-use Rattle.c_lex.specs.Form.{is_keyword, is_outside, is_token, is_within, number_of}
+use Rattle.nml_lex.specs.Lexed.{Lexeme, Space, Word}
+use Rattle.c_lex.specs.Form.{is_keyword, is_outside, is_token, is_within, number_worth}
 use Rattle.c_lex.specs.Lexing.{IsWord}
-use Rattle.c_lex.specs.Lexed.{c, longest, HasPieces}
+use Rattle.c_lex.specs.Lexed.{c, longest, HasLexemes}
 
 -- the longest token is taken
 shift_and_set : longest (codes "<<=1") ≡ 3
@@ -38,7 +38,7 @@ letters_behind = refl
 zero_and_hexadecimal : longest (codes "00x1") ≡ 1
 zero_and_hexadecimal = refl
 
-hexadecimal : number_of (codes "0xfF") ≡ 255
+hexadecimal : number_worth (codes "0xfF") ≡ 255
 hexadecimal = refl
 
 -- a comment is no mark, whether it ends or not; a mark may stand before one
@@ -108,11 +108,11 @@ keyword = refl
 abbrev pub word : {text rest : List ℕ} → IsTrue (is_token text) → longest (text ++ rest) ≡ length text → IsTrue (is_within text) → IsWord c text rest
 word a b d = record { token = a; longest_is = b; within = d }
 
-abbrev pub piece : ℕ → List ℕ → Piece
-piece at text = record { at = at; text = text }
+abbrev pub lexeme : ℕ → List ℕ → Lexeme
+lexeme at text = record { at = at; text = text }
 
 -- ` int/**/a1//\n;` has three tokens
-three : HasPieces (codes " int/**/a1//\n;") (piece 1 (codes "int") ∷ piece 8 (codes "a1") ∷ piece 13 (codes ";") ∷ [])
+three : HasLexemes (codes " int/**/a1//\n;") (lexeme 1 (codes "int") ∷ lexeme 8 (codes "a1") ∷ lexeme 13 (codes ";") ∷ [])
 three = record {
   parts =
       Space (codes " ") ∷ Word (codes "int") ∷ Space (codes "/**/") ∷ Word (codes "a1") ∷ Space (codes "//\n") ∷ Word (codes ";") ∷ [];
@@ -123,7 +123,7 @@ three = record {
 }
 
 -- `07/ 'x` has five, of which the third and the fourth are left out
-five : HasPieces (codes "07/ 'x") (piece 0 (codes "0") ∷ piece 1 (codes "7") ∷ piece 2 (codes "/") ∷ piece 4 (codes "'") ∷ piece 5 (codes "x") ∷ [])
+five : HasLexemes (codes "07/ 'x") (lexeme 0 (codes "0") ∷ lexeme 1 (codes "7") ∷ lexeme 2 (codes "/") ∷ lexeme 4 (codes "'") ∷ lexeme 5 (codes "x") ∷ [])
 five = record {
   parts = Word (codes "0") ∷ Word (codes "7") ∷ Word (codes "/") ∷ Space (codes " ") ∷ Word (codes "'") ∷ Word (codes "x") ∷ [];
   left = codes "";

@@ -30,7 +30,7 @@ pub fn is_within(text: &[u8]) -> bool
 /// It is decimal digits without a leading zero, `0` alone, or `0x` and hexadecimal digits of either case, which is this project's own rule.
 pub fn number_value(text: &[u8]) -> Option<u64>
     requires { IsTrue (spec.is_number text.now) }
-    ensures { result ≡ (if nat_lt (spec.number_of text.now) (2 ^ 64) then Some (spec.number_of text.now) else None) }
+    ensures { result ≡ (if nat_lt (spec.number_worth text.now) (2 ^ 64) then Some (spec.number_worth text.now) else None) }
 {
     nml_lex::number_value(text)
 }

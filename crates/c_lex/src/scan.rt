@@ -1,6 +1,6 @@
 ghost use Rattle.std.specs.Prelude.{◌≤◌, length, map, MatchResult};
-ghost use Rattle.nml_lex.specs.Lexed.{piece_of};
-ghost use Rattle.c_lex.specs.Lexed.{HasPieces, IsLexFault};
+ghost use Rattle.nml_lex.specs.Lexed.{lexeme_of};
+ghost use Rattle.c_lex.specs.Lexed.{HasLexemes, IsLexFault};
 
 use crate::fault::LexFault;
 use crate::limit::is_within;
@@ -16,7 +16,7 @@ use std::alloc::Global;
 /// tokens, is this project's own rule; docs/LANGUAGES.md states it.
 pub fn lex(alloc: Global, bytes: &[u8]) -> Result<Tokens<'_>, LexFault>
     requires { length bytes.now ≤ 4194304 }
-    ensures { MatchResult result (λ t. HasPieces bytes.now (map piece_of t.list.items)) (IsLexFault bytes.now) }
+    ensures { MatchResult result (λ t. HasLexemes bytes.now (map lexeme_of t.list.items)) (IsLexFault bytes.now) }
 {
     let mut list = Vec::new(alloc);
     let mut rest = bytes;

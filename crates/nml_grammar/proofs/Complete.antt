@@ -9,7 +9,7 @@ use Rattle.nml_tree.specs.Formula.{Formula, Prefix, Fit, Numeral, Truth, Named, 
 use Rattle.nml_tree.specs.Spell.{formula_spelling, binary_mark, prefix_mark, fit_word, size_spelling}
 use Rattle.nml_tree.specs.Level.{level, binary_level, unary_level, IsLeveled}
 use Rattle.nml_tree.specs.Depth.{depth}
-use Rattle.readings.specs.Reading.{Read, Found, Stuck, after, behind, mark}
+use Rattle.readings.specs.Reading.{Read, Found, Stuck, read_on, behind, mark}
 use Rattle.nml_grammar.specs.Reading.{size, Beginning, Value, Opening, Fitting, Slice, Choice, Operation, Reader, index, paren, fitted, slice, choice, operation, begun, operand, turn, climb, more, HasNoOperator, HasNoIndex, IsEnd}
 use Rattle.readings.proofs.Symbols.{above}
 use Rattle.nml_grammar.proofs.Symbols.{stops_more, stops_unary, operator_front, operator_weak, no_bracket, beginning_of, beginning_text}
@@ -101,10 +101,10 @@ stands-Indexed n p i q whole room s leveled deep no_index =
     let close : List Symbol = Symbol.Fixed q (codes "]") ∷ s in
     let inside : List Symbol = formula_spelling i ++ close in
     let a = part i whole room close leveled (omega arith) refl refl in
-    let next : Formula → List Symbol → Read Formula = λ i r. after (mark (codes "]") r) (λ q s. Found (Indexed n p i q) s) in (
+    let next : Formula → List Symbol → Read Formula = λ i r. read_on (mark (codes "]") r) (λ q s. Found (Indexed n p i q) s) in (
       a.0,
       ap (operand (climb a.0) room) (flat-Indexed n p i q s)
-          ∙ room_is room (Symbol.Fixed p (codes "[") ∷ inside) (after (climb a.0 0 (room - 1) inside) next) (omega (arith, one_node i))
+          ∙ room_is room (Symbol.Fixed p (codes "[") ∷ inside) (read_on (climb a.0 0 (room - 1) inside) next) (omega (arith, one_node i))
           ∙ on (climb a.0 0 (room - 1) inside) i close next (Found (Indexed n p i q) s) a.1 refl,
     )
 
@@ -113,7 +113,7 @@ stands-Paren p x q whole room s leveled deep no_index =
     let close : List Symbol = Symbol.Fixed q (codes ")") ∷ s in
     let inside : List Symbol = formula_spelling x ++ close in
     let a = part x whole room close leveled (omega arith) refl refl in
-    let next : Formula → List Symbol → Read Formula = λ x r. after (mark (codes ")") r) (λ q s. Found (Paren p x q) s) in (
+    let next : Formula → List Symbol → Read Formula = λ x r. read_on (mark (codes ")") r) (λ q s. Found (Paren p x q) s) in (
       a.0,
       ap (operand (climb a.0) room) (flat-Paren p x q s)
           ∙ enter_paren (climb a.0) room p inside (omega (arith, one_node x))
@@ -123,7 +123,7 @@ stands-Paren p x q whole room s leveled deep no_index =
 -- what stands between `int` and the expression
 fitted_front : (inner : Reader) (room : ℕ) (f : Fit) (at p : ℕ) (n : Size) (c : ℕ) (s : List Symbol)
     → fitted inner room f at (Symbol.Fixed p (codes "(") ∷ (size_spelling n ++ (Symbol.Fixed c (codes ",") ∷ s)))
-    ≡ after (inner 0 (room - 1) s) (λ x s4. after (mark (codes ")") s4) (λ q s5. Found (Fitted f at p n c x q) s5))
+    ≡ read_on (inner 0 (room - 1) s) (λ x s4. read_on (mark (codes ")") s4) (λ q s5. Found (Fitted f at p n c x q) s5))
 fitted_front inner room f at p (size_case.Number n) c s = refl
 fitted_front inner room f at p (size_case.Name n) c s = refl
 
@@ -132,7 +132,7 @@ stands-Fitted f at p n c x q whole room s leveled deep no_index =
     let close : List Symbol = Symbol.Fixed q (codes ")") ∷ s in
     let inside : List Symbol = formula_spelling x ++ close in
     let a = part x whole room close leveled (omega arith) refl refl in
-    let next : Formula → List Symbol → Read Formula = λ x r. after (mark (codes ")") r) (λ q s. Found (Fitted f at p n c x q) s) in (
+    let next : Formula → List Symbol → Read Formula = λ x r. read_on (mark (codes ")") r) (λ q s. Found (Fitted f at p n c x q) s) in (
       a.0,
       ap (operand (climb a.0) room) (flat-Fitted f at p n c x q s)
           ∙ enter_fitted (climb a.0) room f at (Symbol.Fixed p (codes "(") ∷ (size_spelling n ++ (Symbol.Fixed c (codes ",") ∷ inside))) (omega (arith, one_node x))
@@ -146,8 +146,8 @@ sizes c high d low q s = Symbol.Fixed c (codes ",") ∷ (size_spelling high ++ (
 
 abbrev behind_slice : ℕ → ℕ → Formula → List Symbol → Read Formula
 behind_slice at p x s2 =
-    after (mark (codes ",") s2) (λ c s3. after (size s3) (λ high s4. after (mark (codes ",") s4) (λ d s5. after (size s5)
-    (λ low s6. after (mark (codes ")") s6) (λ q s7. Found (Bits at p x c high d low q) s7)))))
+    read_on (mark (codes ",") s2) (λ c s3. read_on (size s3) (λ high s4. read_on (mark (codes ",") s4) (λ d s5. read_on (size s5)
+    (λ low s6. read_on (mark (codes ")") s6) (λ q s7. Found (Bits at p x c high d low q) s7)))))
 
 slice_end : (at p : ℕ) (x : Formula) (c : ℕ) (high : Size) (d : ℕ) (low : Size) (q : ℕ) (s : List Symbol) → behind_slice at p x (sizes c high d low q s) ≡ Found (Bits at p x c high d low q) s
 slice_end at p x c (size_case.Number n) d (size_case.Number m) q s = refl
@@ -178,9 +178,9 @@ stands-Choose at c t x f y end whole_c whole_x whole_y room s leveled deep no_in
     let b = part x whole_x room from_else leveled.1 (omega arith) refl refl in
     let d = part y whole_y room close leveled.2 (omega arith) refl refl in
     let M : ℕ = a.0 + b.0 + d.0 in
-    let third : Formula → ℕ → Formula → ℕ → Formula → List Symbol → Read Formula = λ c t x f y s5. after (mark (codes "endif") s5) (λ end s6. Found (Choose at c t x f y end) s6) in
-    let second : Formula → ℕ → Formula → List Symbol → Read Formula = λ c t x s3. after (mark (codes "else") s3) (λ f s4. after (climb M 0 (room - 1) s4) (third c t x f)) in
-    let first : Formula → List Symbol → Read Formula = λ c s1. after (mark (codes "then") s1) (λ t s2. after (climb M 0 (room - 1) s2) (second c t)) in
+    let third : Formula → ℕ → Formula → ℕ → Formula → List Symbol → Read Formula = λ c t x f y s5. read_on (mark (codes "endif") s5) (λ end s6. Found (Choose at c t x f y end) s6) in
+    let second : Formula → ℕ → Formula → List Symbol → Read Formula = λ c t x s3. read_on (mark (codes "else") s3) (λ f s4. read_on (climb M 0 (room - 1) s4) (third c t x f)) in
+    let first : Formula → List Symbol → Read Formula = λ c s1. read_on (mark (codes "then") s1) (λ t s2. read_on (climb M 0 (room - 1) s2) (second c t)) in
     let last = on (climb M 0 (room - 1) inside_y) y close (third c t x f) (Found (Choose at c t x f y end) s) (lift_climb d.0 M 0 (room - 1) inside_y y close (omega arith) d.1) refl in
     let middle = on (climb M 0 (room - 1) inside_x) x from_else (second c t) (Found (Choose at c t x f y end) s) (lift_climb b.0 M 0 (room - 1) inside_x x from_else (omega arith) b.1) last in (
       M,
@@ -210,7 +210,7 @@ comes-Binary op x at y comes_x whole_y k room s leveled le deep stops no_index z
     (lift_more n M k room (Binary op x at y) s z r (omega arith) e) in
     let turned : more (suc M) k room x here ≡ Found z r =
     ap (turn (climb M) (λ y r. more M k room y r) room x here) (operator_front k op at right le)
-    ∙ above room (depth x) (Stuck here) (after (climb M (suc (binary_level op)) (room - 1) right) next) (omega arith)
+    ∙ above room (depth x) (Stuck here) (read_on (climb M (suc (binary_level op)) (room - 1) right) next) (omega arith)
     ∙ goes in
     let a = comes_x k room here leveled.0 (omega (arith, leveled.2)) (omega arith) (operator_weak (suc (level x)) op at right (omega (arith, leveled.2))) (λ _. no_bracket op at right) z r (suc M) turned in
     (a.0, ap (climb a.0 k room) (flat-Binary op x at y s) ∙ a.1)

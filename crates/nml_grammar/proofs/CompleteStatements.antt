@@ -8,7 +8,7 @@ use Rattle.nml_tree.specs.Block.{Block, Index, Done, Assign, Part, Halt, If, IfE
 use Rattle.nml_tree.specs.Spell.{formula_spelling, block_spelling}
 use Rattle.nml_tree.specs.Level.{IsLeveled, IsLeveledBlock}
 use Rattle.nml_tree.specs.Depth.{depth, block_depth}
-use Rattle.readings.specs.Reading.{Read, Found, after, behind, mark}
+use Rattle.readings.specs.Reading.{Read, Found, read_on, behind, mark}
 use Rattle.nml_grammar.specs.Reading.{climb, HasNoOperator}
 use Rattle.nml_grammar.specs.ReadingStatements.{Start, Naming, Halting, Branching, start, BeginsNone, assignment, branch_end, statement, block_from, statements}
 use Rattle.readings.proofs.Keeps.{kept_found}
@@ -48,7 +48,7 @@ put_before : (n room : ℕ) (here ss : List Symbol) (x : Start) (put : Block →
     → statements n room (block_spelling rest ++ s) ≡ Found rest s → statements (suc n) room here ≡ Found (put rest) s
 put_before n room here ss x put rest s is e f =
     ap (block_from (climb n) (statements n) room here) is
-    ∙ on (statement (climb n) (statements n) room here x ss) put (block_spelling rest ++ s) (λ put s. after (statements n room s) (λ b r. Found (put b) r)) (Found (put rest) s) e
+    ∙ on (statement (climb n) (statements n) room here x ss) put (block_spelling rest ++ s) (λ put s. read_on (statements n room s) (λ b r. Found (put b) r)) (Found (put rest) s) e
     (on (statements n room (block_spelling rest ++ s)) rest s (λ b r. Found (put b) r) (Found (put rest) s) f refl)
 
 -- ---- each kind of statement
@@ -64,9 +64,9 @@ assigned room n i at e semicolon s leveled lt =
     let close : List Symbol = Symbol.Fixed semicolon (codes ";") ∷ s in
     let inside : List Symbol = formula_spelling e ++ close in
     let a = read_part e room close leveled lt refl refl in
-    let next : Formula → List Symbol → Read (Block → Block) = λ e s2. after (mark (codes ";") s2) (λ semicolon s3. Found (Assign n i at e semicolon) s3) in (
+    let next : Formula → List Symbol → Read (Block → Block) = λ e s2. read_on (mark (codes ";") s2) (λ semicolon s3. Found (Assign n i at e semicolon) s3) in (
       a.0,
-      λ m le. room_is room (Symbol.Fixed at (codes "=") ∷ inside) (after (climb m 0 (room - 1) inside) next) (omega (arith, one_node e))
+      λ m le. room_is room (Symbol.Fixed at (codes "=") ∷ inside) (read_on (climb m 0 (room - 1) inside) next) (omega (arith, one_node e))
           ∙ on (climb m 0 (room - 1) inside) e close next (Found (Assign n i at e semicolon) s) (a.1 m le) refl,
     )
 
@@ -92,8 +92,8 @@ whole-Assign_at n p i q at e semicolon rest whole room s leveled deep none =
     let b = read_part i (room - 1) close leveled.0 (omega arith) refl refl in
     let r = read_block rest whole room s leveled.2 (omega arith) none in
     let M : ℕ = a.0 + b.0 + r.0 in
-    let next : Formula → List Symbol → Read (Block → Block) = λ i s1. after (mark (codes "]") s1) (λ q s2. assignment (climb M) room n (Some (p, i, q)) s2) in
-    let first = room_is (room - 1) (Symbol.Fixed p (codes "[") ∷ inside) (after (climb M 0 (room - 1 - 1) inside) next) (omega (arith, one_node i))
+    let next : Formula → List Symbol → Read (Block → Block) = λ i s1. read_on (mark (codes "]") s1) (λ q s2. assignment (climb M) room n (Some (p, i, q)) s2) in
+    let first = room_is (room - 1) (Symbol.Fixed p (codes "[") ∷ inside) (read_on (climb M 0 (room - 1 - 1) inside) next) (omega (arith, one_node i))
     ∙ on (climb M 0 (room - 1 - 1) inside) i close next (Found (Assign n (Some (p, i, q)) at e semicolon) behind_it) (b.1 M (omega arith)) (a.1 M (omega arith)) in (
       suc M,
       ap (statements (suc M) room) (flat-Assign_at n p i q at e semicolon rest s)
@@ -114,8 +114,8 @@ whole-Halt at p e q semicolon rest whole room s leveled deep none =
     let a = read_part e room close leveled.0 (omega arith) refl refl in
     let r = read_block rest whole room s leveled.1 (omega arith) none in
     let M : ℕ = a.0 + r.0 in
-    let next : Formula → List Symbol → Read (Block → Block) = λ e s2. after (mark (codes ")") s2) (λ q s3. after (mark (codes ";") s3) (λ semicolon s4. Found (Halt at p e q semicolon) s4)) in
-    let first = room_is room (Symbol.Fixed at (codes "halt") ∷ from_mark) (after (climb M 0 (room - 1) inside) next) (omega (arith, one_node e))
+    let next : Formula → List Symbol → Read (Block → Block) = λ e s2. read_on (mark (codes ")") s2) (λ q s3. read_on (mark (codes ";") s3) (λ semicolon s4. Found (Halt at p e q semicolon) s4)) in
+    let first = room_is room (Symbol.Fixed at (codes "halt") ∷ from_mark) (read_on (climb M 0 (room - 1) inside) next) (omega (arith, one_node e))
     ∙ on (climb M 0 (room - 1) inside) e close next (Found (Halt at p e q semicolon) (block_spelling rest ++ s)) (a.1 M (omega arith)) refl in (
       suc M,
       ap (statements (suc M) room) (flat-Halt at p e q semicolon rest s)
@@ -135,9 +135,9 @@ whole-If at c t xs end semicolon rest whole_x whole room s leveled deep none =
     let M : ℕ = a.0 + b.0 + r.0 in
     let found : Read (Block → Block) = Found (If at c t xs end semicolon) (block_spelling rest ++ s) in
     let second : Formula → ℕ → Block → List Symbol → Read (Block → Block) = λ c t xs s3. branch_end (statements M) room at c t xs s3 (behind (codes "else") s3) in
-    let next : Formula → List Symbol → Read (Block → Block) = λ c s1. after (mark (codes "then") s1) (λ t s2. after (statements M (room - 1) s2) (second c t)) in
+    let next : Formula → List Symbol → Read (Block → Block) = λ c s1. read_on (mark (codes "then") s1) (λ t s2. read_on (statements M (room - 1) s2) (second c t)) in
     let last = on (statements M (room - 1) inside_x) xs close (second c t) found (b.1 M (omega arith)) refl in
-    let first = room_is room here (after (climb M 0 (room - 1) inside_c) next) (omega (arith, one_node c))
+    let first = room_is room here (read_on (climb M 0 (room - 1) inside_c) next) (omega (arith, one_node c))
     ∙ on (climb M 0 (room - 1) inside_c) c from_then next found (a.1 M (omega arith)) last in (
       suc M,
       ap (statements (suc M) room) (flat-If at c t xs end semicolon rest s)
@@ -159,12 +159,12 @@ whole-IfElse at c t xs f ys end semicolon rest whole_x whole_y whole room s leve
     let r = read_block rest whole room s leveled.3 (omega arith) none in
     let M : ℕ = a.0 + b.0 + d.0 + r.0 in
     let found : Read (Block → Block) = Found (IfElse at c t xs f ys end semicolon) (block_spelling rest ++ s) in
-    let third : Formula → ℕ → Block → ℕ → Block → List Symbol → Read (Block → Block) = λ c t xs f ys s1. after (mark (codes "endif") s1) (λ end s2. after (mark (codes ";") s2) (λ semicolon s3. Found (IfElse at c t xs f ys end semicolon) s3)) in
+    let third : Formula → ℕ → Block → ℕ → Block → List Symbol → Read (Block → Block) = λ c t xs f ys s1. read_on (mark (codes "endif") s1) (λ end s2. read_on (mark (codes ";") s2) (λ semicolon s3. Found (IfElse at c t xs f ys end semicolon) s3)) in
     let second : Formula → ℕ → Block → List Symbol → Read (Block → Block) = λ c t xs s3. branch_end (statements M) room at c t xs s3 (behind (codes "else") s3) in
-    let next : Formula → List Symbol → Read (Block → Block) = λ c s1. after (mark (codes "then") s1) (λ t s2. after (statements M (room - 1) s2) (second c t)) in
+    let next : Formula → List Symbol → Read (Block → Block) = λ c s1. read_on (mark (codes "then") s1) (λ t s2. read_on (statements M (room - 1) s2) (second c t)) in
     let last = on (statements M (room - 1) inside_y) ys close (third c t xs f) found (d.1 M (omega arith)) refl in
     let middle = on (statements M (room - 1) inside_x) xs from_else (second c t) found (b.1 M (omega arith)) last in
-    let first = room_is room here (after (climb M 0 (room - 1) inside_c) next) (omega (arith, one_node c))
+    let first = room_is room here (read_on (climb M 0 (room - 1) inside_c) next) (omega (arith, one_node c))
     ∙ on (climb M 0 (room - 1) inside_c) c from_then next found (a.1 M (omega arith)) middle in (
       suc M,
       ap (statements (suc M) room) (flat-IfElse at c t xs f ys end semicolon rest s)

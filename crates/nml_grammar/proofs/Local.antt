@@ -8,7 +8,7 @@ use Rattle.readings.specs.Symbol.{Symbol}
 use Rattle.nml_tree.specs.Formula.{Formula, Prefix, Fit, Numeral, Truth, Named, Indexed, Paren, Fitted, Bits, Choose, Unary, Binary}
 use Rattle.nml_tree.specs.Level.{binary_level, unary_level}
 use Rattle.nml_tree.specs.Depth.{depth}
-use Rattle.readings.specs.Reading.{Read, Found, Stuck, after, looked_up, behind, mark}
+use Rattle.readings.specs.Reading.{Read, Found, Stuck, read_on, looked_up, behind, mark}
 use Rattle.nml_grammar.specs.Reading.{size, operators, of_level, operator, Beginning, Value, Opening, Fitting, Slice, Choice, Operation, beginnings, Reader, index, paren, fitted, slice, choice, operation, begun, operand, turn, climb, more}
 use Rattle.readings.specs.Lawful.{rest_of, with_rest, Locally, IsLocal}
 use Rattle.readings.proofs.Local.{unread_locally, stuck_empty, found_empty, stuck_at, found_before, found_local, taken, tested, after_local, mark_local}
@@ -24,11 +24,11 @@ size_local (Symbol.Quoted at text ∷ ss) = stuck_at size (Symbol.Quoted at text
 -- ---- operands
 module _ (inner : Reader) (inner_local : (k room : ℕ) → IsLocal (inner k room)) where
   -- the last mark of a node
-  closed_local : (text : List ℕ) (make : ℕ → Formula) → IsLocal (λ t. after (mark text t) (λ q s. Found (make q) s))
+  closed_local : (text : List ℕ) (make : ℕ → Formula) → IsLocal (λ t. read_on (mark text t) (λ q s. Found (make q) s))
   closed_local text make = after_local (mark text) (λ q s. Found (make q) s) (mark_local text) (λ q. found_local (make q))
 
   paren_local : (room at : ℕ) → IsLocal (paren inner room at)
-  paren_local room at = after_local (inner 0 (room - 1)) (λ x r. after (mark (codes ")") r) (λ q s. Found (Paren at x q) s)) (inner_local 0 (room - 1)) (λ x. closed_local (codes ")") (Paren at x))
+  paren_local room at = after_local (inner 0 (room - 1)) (λ x r. read_on (mark (codes ")") r) (λ q s. Found (Paren at x q) s)) (inner_local 0 (room - 1)) (λ x. closed_local (codes ")") (Paren at x))
 
   fitted_local : (room : ℕ) (fit : Fit) (at : ℕ) → IsLocal (fitted inner room fit at)
   fitted_local room fit at =
@@ -61,8 +61,8 @@ module _ (inner : Reader) (inner_local : (k room : ℕ) → IsLocal (inner k roo
   operation_local room op at = after_local (inner unary_level (room - 1)) (λ x s. Found (Unary op at x) s) (inner_local unary_level (room - 1)) (λ x. found_local (Unary op at x))
 
   -- a name, and the expression in brackets behind it if there is one
-  bracket_local : (room : ℕ) (n : Name) (p : ℕ) → IsLocal (λ t. after (inner 0 (room - 1) t) (λ i r. after (mark (codes "]") r) (λ q s. Found (Indexed n p i q) s)))
-  bracket_local room n p = after_local (inner 0 (room - 1)) (λ i r. after (mark (codes "]") r) (λ q s. Found (Indexed n p i q) s)) (inner_local 0 (room - 1)) (λ i. closed_local (codes "]") (Indexed n p i))
+  bracket_local : (room : ℕ) (n : Name) (p : ℕ) → IsLocal (λ t. read_on (inner 0 (room - 1) t) (λ i r. read_on (mark (codes "]") r) (λ q s. Found (Indexed n p i q) s)))
+  bracket_local room n p = after_local (inner 0 (room - 1)) (λ i r. read_on (mark (codes "]") r) (λ q s. Found (Indexed n p i q) s)) (inner_local 0 (room - 1)) (λ i. closed_local (codes "]") (Indexed n p i))
 
   abbrev named : ℕ → Name → List Symbol → Read Formula
   named room n t = index inner room n t (behind (codes "[") t)
@@ -73,7 +73,7 @@ module _ (inner : Reader) (inner_local : (k room : ℕ) → IsLocal (inner k roo
     where
       by : (b : Bool) → text_eq text (codes "[") ≡ b → Locally (named room n) (Symbol.Fixed at text ∷ ss) (index inner room n (Symbol.Fixed at text ∷ ss) (if◌then◌else◌ {A = Option (ℕ × List Symbol)} b (Some (at, ss)) None))
       by true e =
-          tested (nat_le room 1) (named room n) (λ t. after (inner 0 (room - 1) t) (λ i r. after (mark (codes "]") r) (λ q s. Found (Indexed n at i q) s))) (Symbol.Fixed at text) ss
+          tested (nat_le room 1) (named room n) (λ t. read_on (inner 0 (room - 1) t) (λ i r. read_on (mark (codes "]") r) (λ q s. Found (Indexed n at i q) s))) (Symbol.Fixed at text) ss
           (λ t. ap (λ b. index inner room n (Symbol.Fixed at text ∷ t) (if◌then◌else◌ {A = Option (ℕ × List Symbol)} b (Some (at, t)) None)) e) (bracket_local room n at)
       by false e = found_before (named room n) (Named n) (Symbol.Fixed at text) ss (λ t. ap (λ b. index inner room n (Symbol.Fixed at text ∷ t) (if◌then◌else◌ {A = Option (ℕ × List Symbol)} b (Some (at, t)) None)) e)
   named_local room n (Symbol.Named at text ∷ ss) = found_before (named room n) (Named n) (Symbol.Named at text) ss (λ t. refl)
@@ -104,7 +104,7 @@ module _ (inner : Reader) (inner_local : (k room : ℕ) → IsLocal (inner k roo
     abbrev goes : ℕ → ℕ → Formula → List Symbol → Read Formula
     goes k room left t = turn inner next room left t (operator k t)
 
-    right_local : (room : ℕ) (left : Formula) (op : Bin) (at : ℕ) → IsLocal (λ t. after (inner (suc (binary_level op)) (room - 1) t) (λ right s. next (Binary op left at right) s))
+    right_local : (room : ℕ) (left : Formula) (op : Bin) (at : ℕ) → IsLocal (λ t. read_on (inner (suc (binary_level op)) (room - 1) t) (λ right s. next (Binary op left at right) s))
     right_local room left op at =
         after_local (inner (suc (binary_level op)) (room - 1)) (λ right s. next (Binary op left at right) s) (inner_local (suc (binary_level op)) (room - 1)) (λ right. next_local (Binary op left at right))
 
@@ -116,7 +116,7 @@ module _ (inner : Reader) (inner_local : (k room : ℕ) → IsLocal (inner k roo
         by : (b : Bool) → nat_le k (binary_level op) ≡ b
             → Locally (goes k room left) (Symbol.Fixed at text ∷ ss) (turn inner next room left (Symbol.Fixed at text ∷ ss) (if◌then◌else◌ {A = Option (Bin × ℕ × List Symbol)} b (Some (op, at, ss)) None))
         by true f =
-            tested (nat_le room (depth left)) (goes k room left) (λ t. after (inner (suc (binary_level op)) (room - 1) t) (λ right s. next (Binary op left at right) s)) (Symbol.Fixed at text) ss
+            tested (nat_le room (depth left)) (goes k room left) (λ t. read_on (inner (suc (binary_level op)) (room - 1) t) (λ right s. next (Binary op left at right) s)) (Symbol.Fixed at text) ss
             (λ t. ap (λ o. turn inner next room left (Symbol.Fixed at text ∷ t) (of_level k at t o)) e
             ∙ ap (λ b. turn inner next room left (Symbol.Fixed at text ∷ t) (if◌then◌else◌ {A = Option (Bin × ℕ × List Symbol)} b (Some (op, at, t)) None)) f)
             (right_local room left op at)

@@ -6,7 +6,7 @@ use Rattle.nml_tree.specs.declared.names.Name.{Name}
 use Rattle.readings.specs.Symbol.{Symbol}
 use Rattle.nml_tree.specs.Formula.{Formula}
 use Rattle.nml_tree.specs.Block.{Block, Index, Done, Assign, Part, Halt, If, IfElse}
-use Rattle.readings.specs.Reading.{Read, Found, Stuck, after, looked_up, behind, mark}
+use Rattle.readings.specs.Reading.{Read, Found, Stuck, read_on, looked_up, behind, mark}
 use Rattle.nml_grammar.specs.Reading.{Reader, climb}
 use Rattle.nml_grammar.specs.ReadingStatements.{Start, Naming, Halting, Branching, starts, start_of, start, Blocks, part, assignment, place, naming, halting, branch_end, branching, block_from, statements}
 use Rattle.readings.specs.Lawful.{rest_of, with_rest, Locally, IsLocal}
@@ -20,10 +20,10 @@ tested_here false reads l ss = l ss
 
 -- one on whether the first of two readings goes on
 tested_after : {A B : Type 0} (b : Bool) (reads : List Symbol → Read B) (others : List Symbol → Read A) (next : A → List Symbol → Read B) (first : Symbol) (ss : List Symbol)
-    → ((t : List Symbol) → reads (first ∷ t) ≡ after (if◌then◌else◌ {A = Read A} b (Stuck (first ∷ t)) (others t)) next) → IsLocal (λ t. after (others t) next)
-    → Locally reads (first ∷ ss) (after (if◌then◌else◌ {A = Read A} b (Stuck (first ∷ ss)) (others ss)) next)
+    → ((t : List Symbol) → reads (first ∷ t) ≡ read_on (if◌then◌else◌ {A = Read A} b (Stuck (first ∷ t)) (others t)) next) → IsLocal (λ t. read_on (others t) next)
+    → Locally reads (first ∷ ss) (read_on (if◌then◌else◌ {A = Read A} b (Stuck (first ∷ ss)) (others ss)) next)
 tested_after true reads others next first ss h l = stuck_at reads first ss h
-tested_after false reads others next first ss h l = taken reads (λ t. after (others t) next) first ss h (l ss)
+tested_after false reads others next first ss h l = taken reads (λ t. read_on (others t) next) first ss h (l ss)
 
 -- what goes on behind a keyword or a mark where it is in front, perhaps after a test, and otherwise another way
 module _ {A : Type 0} (text : List ℕ) (fork : List Symbol → Option (ℕ × List Symbol) → Read A) (b : Bool) (others : ℕ → List Symbol → Read A)
@@ -55,7 +55,7 @@ module _ {A : Type 0} (text : List ℕ) (fork : List Symbol → Option (ℕ × L
 -- ---- a statement
 module _ (inner : Reader) (inner_local : (k room : ℕ) → IsLocal (inner k room)) (blocks : Blocks) (blocks_local : (room : ℕ) → IsLocal (blocks room)) where
   -- the last mark of a statement
-  ended_local : (make : ℕ → Block → Block) → IsLocal (λ t. after (mark (codes ";") t) (λ q s. Found (make q) s))
+  ended_local : (make : ℕ → Block → Block) → IsLocal (λ t. read_on (mark (codes ";") t) (λ q s. Found (make q) s))
   ended_local make = after_local (mark (codes ";")) (λ q s. Found (make q) s) (mark_local (codes ";")) (λ q. found_local (make q))
 
   part_local : (n : Name) (dot : ℕ) → IsLocal (part n dot)
@@ -69,7 +69,7 @@ module _ (inner : Reader) (inner_local : (k room : ℕ) → IsLocal (inner k roo
 
   -- the expression in brackets, and the assignment behind it
   abbrev placed : ℕ → Name → ℕ → List Symbol → Read (Block → Block)
-  placed room n p t = after (inner 0 (room - 1 - 1) t) (λ i s1. after (mark (codes "]") s1) (λ q s2. assignment inner room n (Some (p, i, q)) s2))
+  placed room n p t = read_on (inner 0 (room - 1 - 1) t) (λ i s1. read_on (mark (codes "]") s1) (λ q s2. assignment inner room n (Some (p, i, q)) s2))
 
   placed_local : (room : ℕ) (n : Name) (p : ℕ) → IsLocal (placed room n p)
   placed_local room n p =
@@ -90,7 +90,7 @@ module _ (inner : Reader) (inner_local : (k room : ℕ) → IsLocal (inner k roo
   -- `if`: what stands behind `else`, and what may stand behind the first statements
   abbrev otherwise_end : ℕ → ℕ → Formula → ℕ → Block → ℕ → List Symbol → Read (Block → Block)
   otherwise_end room at c t xs f ss =
-      after (blocks (room - 1) ss) (λ ys s1. after (mark (codes "endif") s1) (λ end s2. after (mark (codes ";") s2) (λ semicolon s3. Found (IfElse at c t xs f ys end semicolon) s3)))
+      read_on (blocks (room - 1) ss) (λ ys s1. read_on (mark (codes "endif") s1) (λ end s2. read_on (mark (codes ";") s2) (λ semicolon s3. Found (IfElse at c t xs f ys end semicolon) s3)))
 
   otherwise_end_local : (room at : ℕ) (c : Formula) (t : ℕ) (xs : Block) (f : ℕ) → IsLocal (otherwise_end room at c t xs f)
   otherwise_end_local room at c t xs f =
@@ -113,7 +113,7 @@ module _ (inner : Reader) (inner_local : (k room : ℕ) → IsLocal (inner k roo
 
   -- those behind it
   abbrev others : ℕ → (Block → Block) → List Symbol → Read Block
-  others room put s = after (blocks room s) (λ b rest. Found (put b) rest)
+  others room put s = read_on (blocks room s) (λ b rest. Found (put b) rest)
 
   others_local : (room : ℕ) (put : Block → Block) → IsLocal (others room put)
   others_local room put = after_local (blocks room) (λ b rest. Found (put b) rest) (blocks_local room) (λ b. found_local (put b))
@@ -121,7 +121,7 @@ module _ (inner : Reader) (inner_local : (k room : ℕ) → IsLocal (inner k roo
   -- what begins with a name, `halt` or `if`
   start_local : (room : ℕ) (first : Symbol) (x : Start) (ss : List Symbol) → ((t : List Symbol) → start (first ∷ t) ≡ Some (x, t)) → Locally (reads_block room) (first ∷ ss) (block_from inner blocks room (first ∷ ss) (Some (x, ss)))
   start_local room first (Naming n) ss h =
-      taken (reads_block room) (λ t. after (naming inner room n t (behind (codes ".") t)) (others room)) first ss (λ t. ap (block_from inner blocks room (first ∷ t)) (h t))
+      taken (reads_block room) (λ t. read_on (naming inner room n t (behind (codes ".") t)) (others room)) first ss (λ t. ap (block_from inner blocks room (first ∷ t)) (h t))
       (after_local (λ t. naming inner room n t (behind (codes ".") t)) (others room) (naming_local room n) (others_local room) ss)
   start_local room first (Halting at) ss h =
       tested_after (nat_le room 1) (reads_block room) (halting inner room at) (others room) first ss (λ t. ap (block_from inner blocks room (first ∷ t)) (h t))

@@ -19,7 +19,7 @@ use Rattle.nml_tree.specs.Level.{IsLeveledBlock}
 use Rattle.nml_tree.specs.Spell.{name_spelling, size_spelling, type_spelling, block_spelling}
 use Rattle.nml_tree.specs.SpellItems.{attribute_spelling, dotted_spelling, arg_spelling, template_spelling, action_spelling, attrs_spelling, par_spelling, further_par_spelling, pars_spelling}
 use Rattle.nml_tree.proofs.Back.{one_block}
-use Rattle.readings.specs.Reading.{Read, Found, Stuck, after, looked_up, behind, mark}
+use Rattle.readings.specs.Reading.{Read, Found, Stuck, read_on, looked_up, behind, mark}
 use Rattle.nml_grammar.specs.Reading.{size}
 use Rattle.readings.proofs.Symbols.{none_is_none}
 use Rattle.nml_grammar.proofs.Flat.{join6}
@@ -119,10 +119,10 @@ words =
 abbrev sized : ℕ → List Symbol → Option Sizes → Read TypeExpr
 sized at ss None = Stuck ss
 sized at ss (Some (No make)) = Found (make at) ss
-sized at ss (Some (Single make)) = after (mark (codes "(") ss) (λ p s1. after (size s1) (λ n s2. after (mark (codes ")") s2) (λ q s3. Found (make at p n q) s3)))
+sized at ss (Some (Single make)) = read_on (mark (codes "(") ss) (λ p s1. read_on (size s1) (λ n s2. read_on (mark (codes ")") s2) (λ q s3. Found (make at p n q) s3)))
 sized at ss (Some (Double make)) =
-    after (mark (codes "(") ss) (λ p s1. after (size s1) (λ n s2. after (mark (codes ",") s2)
-    (λ c s3. after (size s3) (λ m s4. after (mark (codes ")") s4) (λ q s5. Found (make at p n c m q) s5)))))
+    read_on (mark (codes "(") ss) (λ p s1. read_on (size s1) (λ n s2. read_on (mark (codes ",") s2)
+    (λ c s3. read_on (size s3) (λ m s4. read_on (mark (codes ")") s4) (λ q s5. Found (make at p n c m q) s5)))))
 
 -- the type in front
 abbrev type_read : List Symbol → Read TypeExpr

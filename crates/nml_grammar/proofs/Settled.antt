@@ -9,7 +9,7 @@ use Rattle.nml_tree.specs.Formula.{Formula, Binary}
 use Rattle.nml_tree.specs.Spell.{formula_spelling, binary_mark}
 use Rattle.nml_tree.specs.Level.{level, binary_level, unary_level, IsLeveled}
 use Rattle.nml_tree.specs.Depth.{depth}
-use Rattle.readings.specs.Reading.{Read, Found, Stuck, after, looked_up, behind, mark}
+use Rattle.readings.specs.Reading.{Read, Found, Stuck, read_on, looked_up, behind, mark}
 use Rattle.nml_grammar.specs.Reading.{size, operator, Beginning, Value, Opening, Fitting, Slice, Choice, Operation, beginnings, Reader, index, paren, fitted, slice, choice, operation, begun, operand, turn, climb, more, reading, IsEnd}
 use Rattle.nml_grammar.proofs.Symbols.{operator_is}
 use Rattle.readings.specs.Lawful.{IsTold, Settles}
@@ -89,7 +89,7 @@ turn_ends inner next k room left ss right goes None e = omega arith
 turn_ends inner next k room left ss right goes (Some (op, at, rest)) e =
     let l = shorter ss rest (Symbol.Fixed at (binary_mark op)) (operator_is k ss op at rest e).spelled in
     let both = after_ends (length ss) (inner (suc (binary_level op)) (room - 1) rest) (λ right s. next (Binary op left at right) s) (right (suc (binary_level op)) (room - 1) rest l) (λ y s h. goes (Binary op left at y) s h) in
-    if_ends (suc (length ss)) (nat_le room (depth left)) ss _ (ends_more (length ss) (suc (length ss)) (after (inner (suc (binary_level op)) (room - 1) rest) (λ right s. next (Binary op left at right) s)) (omega arith) both)
+    if_ends (suc (length ss)) (nat_le room (depth left)) ss _ (ends_more (length ss) (suc (length ss)) (read_on (inner (suc (binary_level op)) (room - 1) rest) (λ right s. next (Binary op left at right) s)) (omega arith) both)
 
 -- ---- expressions
 mutual

@@ -10,7 +10,7 @@ use Rattle.nml_tree.specs.Formula.{Formula, Prefix, Fit, Numeral, Truth, Named, 
 use Rattle.nml_tree.specs.Spell.{formula_spelling, binary_mark, prefix_mark, fit_word, size_spelling}
 use Rattle.nml_tree.specs.Level.{level, binary_level, unary_level, IsLeveled}
 use Rattle.nml_tree.specs.Depth.{depth}
-use Rattle.readings.specs.Reading.{Read, Found, Stuck, after, looked_up, behind, mark, with_room}
+use Rattle.readings.specs.Reading.{Read, Found, Stuck, read_on, looked_up, behind, mark, with_room}
 use Rattle.nml_grammar.specs.Reading.{size, operator, Beginning, Value, Opening, Fitting, Slice, Choice, Operation, beginnings, Reader, index, paren, fitted, slice, choice, operation, begun, operand, turn, climb, more}
 use Rattle.readings.proofs.Symbols.{above, within, behind_is}
 use Rattle.nml_grammar.proofs.Symbols.{stops_more, stops_unary, below_unary, operator_is, size_is, beginning_is, tight_of}
@@ -238,8 +238,8 @@ module _ (inner : Reader) (sound : IsSound inner) (viable : IsViable inner) wher
   index_viable : (room : ℕ) (n : Name) (ss rest : List Symbol) (o : Option (ℕ × List Symbol)) → 1 ≤ room → behind (codes "[") ss ≡ o → index inner room n ss o ≡ Stuck rest → Viable unary_level room (Symbol.Named n.at n.text ∷ ss) rest
   index_viable room n ss rest None some i e = found_not_stuck (Named n) ss rest e
   index_viable room n ss rest (Some (p, inside)) some i e =
-      let next : Formula → List Symbol → Read Formula = λ x r. after (mark (codes "]") r) (λ q s. Found (Indexed n p x q) s) in
-      let reads : List Symbol → Read Formula = λ t. after (inner 0 (room - 1) t) next in
+      let next : Formula → List Symbol → Read Formula = λ x r. read_on (mark (codes "]") r) (λ q s. Found (Indexed n p x q) s) in
+      let reads : List Symbol → Read Formula = λ t. read_on (inner 0 (room - 1) t) next in
       ⊎_elim
       (λ h. record { front = Symbol.Named n.at n.text ∷ []; further = []; expression = Named n; left = ap (λ t. Symbol.Named n.at n.text ∷ t) h; good = record { leveled = tt; at_least = lit≤ tt; shallow = some }; spelled = refl })
       (λ h.
@@ -322,9 +322,9 @@ module _ (inner : Reader) (sound : IsSound inner) (viable : IsViable inner) wher
       let x = sound (suc (binary_level op)) (room - 1) behind_op h.0 h.1 (omega (arith, below_unary op)) (omega (arith, one_node left)) h.2 in
       let again = turned k room left here op at behind_op h.0 h.1 r lt i x in
       subst (λ ss. Viable k room ss rest) again.1 (goes (Binary op left at h.0) h.1 again.0 h.3))
-      (after_stuck inside on rest (sym (above room (depth left) (Stuck here) (after inside on) lt) ∙ e)))
+      (after_stuck inside on rest (sym (above room (depth left) (Stuck here) (read_on inside on) lt) ∙ e)))
       (λ (deep : room ≤ depth left).
-      let stuck = stuck_is here rest (sym (within room (depth left) (Stuck here) (after inside on) deep) ∙ e) in
+      let stuck = stuck_is here rest (sym (within room (depth left) (Stuck here) (read_on inside on) deep) ∙ e) in
       record {
         front = formula_spelling left;
         further = [];

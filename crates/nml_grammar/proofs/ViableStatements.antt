@@ -8,7 +8,7 @@ use Rattle.nml_tree.specs.Block.{Block, Index, Done, Assign, Part, Halt, If, IfE
 use Rattle.nml_tree.specs.Spell.{formula_spelling, block_spelling}
 use Rattle.nml_tree.specs.Level.{IsLeveled, IsLeveledBlock}
 use Rattle.nml_tree.specs.Depth.{depth, block_depth}
-use Rattle.readings.specs.Reading.{Read, Found, Stuck, after, behind, mark, with_room}
+use Rattle.readings.specs.Reading.{Read, Found, Stuck, read_on, behind, mark, with_room}
 use Rattle.nml_grammar.specs.Reading.{climb}
 use Rattle.nml_grammar.specs.ReadingStatements.{Start, Naming, Halting, Branching, start, Blocks, part, assignment, place, naming, halting, branch_end, branching, statement, block_from, statements}
 use Rattle.readings.proofs.Symbols.{behind_is}
@@ -189,7 +189,7 @@ abbrev Ends : (ℕ → Block → Block) → (Block → Block) → List Symbol �
 Ends make = Closes (codes ";") make
 
 -- it is read or lacks
-ends : (make : ℕ → Block → Block) → Goes (λ t. after (mark (codes ";") t) (λ q s. Found (make q) s)) (Ends make)
+ends : (make : ℕ → Block → Block) → Goes (λ t. read_on (mark (codes ";") t) (λ q s. Found (make q) s)) (Ends make)
 ends make = closes (codes ";") make
 
 -- it stands alone
@@ -228,8 +228,8 @@ module _ (m : ℕ) where
 
   -- is read so
   assign_rest_goes : (room : ℕ) (n : Name) (i : Index) → 1 < room
-      → Goes (λ t. after (mark (codes "=") t) (λ at s1. after (climb m 0 (room - 1) s1)
-      (λ e s2. after (mark (codes ";") s2) (λ semicolon s3. Found (Assign n i at e semicolon) s3)))) (AssignRest room n i)
+      → Goes (λ t. read_on (mark (codes "=") t) (λ at s1. read_on (climb m 0 (room - 1) s1)
+      (λ e s2. read_on (mark (codes ";") s2) (λ semicolon s3. Found (Assign n i at e semicolon) s3)))) (AssignRest room n i)
   assign_rest_goes room n i lt =
       after_goes (mark (codes "=")) _ (IsMark (codes "=")) (λ at. Then (IsPart 0 (room - 1)) (λ e. Ends (Assign n i at e))) (mark_goes (codes "="))
       (λ at. after_goes (climb m 0 (room - 1)) _ (IsPart 0 (room - 1)) (λ e. Ends (Assign n i at e)) (expression_goes (room - 1) (omega (arith, lt)))
@@ -274,7 +274,7 @@ module _ (m : ℕ) where
 
   -- is read so
   index_goes : (room : ℕ) (n : Name) (p : ℕ) → 1 < room - 1
-      → Goes (λ t. after (climb m 0 (room - 1 - 1) t) (λ i s1. after (mark (codes "]") s1) (λ q s2. assignment (climb m) room n (Some (p, i, q)) s2)))
+      → Goes (λ t. read_on (climb m 0 (room - 1 - 1) t) (λ i s1. read_on (mark (codes "]") s1) (λ q s2. assignment (climb m) room n (Some (p, i, q)) s2)))
       (IndexRest room n p)
   index_goes room n p lt =
       after_goes (climb m 0 (room - 1 - 1)) _ (IsPart 0 (room - 1 - 1)) (λ i. Then (IsMark (codes "]")) (λ q. AssignRest room n (Some (p, i, q))))
@@ -421,8 +421,8 @@ module _ (m : ℕ) where
 
     -- and is read so
     else_goes : (room at : ℕ) (c : Formula) (t : ℕ) (xs : Block) (f : ℕ) → 1 < room
-        → Goes (λ ss. after (within (room - 1) ss) (λ ys s1. after (mark (codes "endif") s1)
-        (λ end s2. after (mark (codes ";") s2) (λ semicolon s3. Found (IfElse at c t xs f ys end semicolon) s3)))) (ElseRest room at c t xs f)
+        → Goes (λ ss. read_on (within (room - 1) ss) (λ ys s1. read_on (mark (codes "endif") s1)
+        (λ end s2. read_on (mark (codes ";") s2) (λ semicolon s3. Found (IfElse at c t xs f ys end semicolon) s3)))) (ElseRest room at c t xs f)
     else_goes room at c t xs f lt =
         after_goes (within (room - 1)) _ (IsBlock (room - 1)) (λ ys. Then (IsMark (codes "endif")) (λ end. Ends (IfElse at c t xs f ys end)))
         (blocks_go (room - 1) (omega (arith, lt)))
@@ -504,7 +504,7 @@ module _ (m : ℕ) where
         → block_from (climb m) within room here o ≡ Stuck rest → ViableBlock room here rest
     block_from_viable room here rest None some is e = found_not_stuck Done here rest e
     block_from_viable room here rest (Some (x, ss)) some is e =
-        let next : (Block → Block) → List Symbol → Read Block = λ put s. after (within room s) (λ b rest. Found (put b) rest) in
+        let next : (Block → Block) → List Symbol → Read Block = λ put s. read_on (within room s) (λ b rest. Found (put b) rest) in
         let g = after_at here (statement (climb m) within room here x ss) next (IsStatement room) (λ put. Then (IsBlock room) (λ b. IsDone (put b)))
         (statement_at room here x ss some (start_is here x ss is))
         (λ put. after_goes (within room) (λ b rest. Found (put b) rest) (IsBlock room) (λ b. IsDone (put b)) (blocks_go room some) (λ b. done_goes (put b))) in

@@ -7,7 +7,7 @@ use Rattle.readings.specs.Symbol.{Symbol}
 use Rattle.nml_tree.specs.Formula.{Formula, Prefix, Fit, Numeral, Truth, Named, Indexed, Paren, Fitted, Bits, Choose, Unary, Binary}
 use Rattle.nml_tree.specs.Level.{binary_level, unary_level}
 use Rattle.nml_tree.specs.Depth.{depth}
-use Rattle.readings.specs.Reading.{Read, Found, Stuck, Unread, after, looked_up, behind, mark, with_room}
+use Rattle.readings.specs.Reading.{Read, Found, Stuck, Unread, read_on, looked_up, behind, mark, with_room}
 use Rattle.nml_tree.specs.declared.tree.Size.TheVariants as size_case
 use Rattle.nml_tree.specs.declared.operator.Bin.TheVariants as bin
 
@@ -69,35 +69,35 @@ Reader = ℕ → ℕ → List Symbol → Read Formula
 abbrev pub index : Reader → ℕ → Name → List Symbol → Option (ℕ × List Symbol) → Read Formula
 index inner room n ss None = Found (Named n) ss
 index inner room n ss (Some (p, rest)) =
-    with_room room ss (after (inner 0 (room - 1) rest) (λ i r. after (mark (codes "]") r) (λ q s. Found (Indexed n p i q) s)))
+    with_room room ss (read_on (inner 0 (room - 1) rest) (λ i r. read_on (mark (codes "]") r) (λ q s. Found (Indexed n p i q) s)))
 
 -- `( e )`, behind its first symbol
 abbrev pub paren : Reader → ℕ → ℕ → List Symbol → Read Formula
-paren inner room at ss = after (inner 0 (room - 1) ss) (λ x r. after (mark (codes ")") r) (λ q s. Found (Paren at x q) s))
+paren inner room at ss = read_on (inner 0 (room - 1) ss) (λ x r. read_on (mark (codes ")") r) (λ q s. Found (Paren at x q) s))
 
 -- `int ( size , e )` and the like, behind its first symbol
 abbrev pub fitted : Reader → ℕ → Fit → ℕ → List Symbol → Read Formula
 fitted inner room fit at ss =
-    after (mark (codes "(") ss) (λ p s1. after (size s1) (λ n s2. after (mark (codes ",") s2)
-    (λ c s3. after (inner 0 (room - 1) s3) (λ x s4. after (mark (codes ")") s4) (λ q s5. Found (Fitted fit at p n c x q) s5)))))
+    read_on (mark (codes "(") ss) (λ p s1. read_on (size s1) (λ n s2. read_on (mark (codes ",") s2)
+    (λ c s3. read_on (inner 0 (room - 1) s3) (λ x s4. read_on (mark (codes ")") s4) (λ q s5. Found (Fitted fit at p n c x q) s5)))))
 
 -- `bits ( e , size , size )`, behind its first symbol
 abbrev pub slice : Reader → ℕ → ℕ → List Symbol → Read Formula
 slice inner room at ss =
-    after (mark (codes "(") ss) (λ p s1. after (inner 0 (room - 1) s1) (λ x s2. after (mark (codes ",") s2)
-    (λ c s3. after (size s3) (λ high s4. after (mark (codes ",") s4) (λ d s5. after (size s5)
-    (λ low s6. after (mark (codes ")") s6) (λ q s7. Found (Bits at p x c high d low q) s7)))))))
+    read_on (mark (codes "(") ss) (λ p s1. read_on (inner 0 (room - 1) s1) (λ x s2. read_on (mark (codes ",") s2)
+    (λ c s3. read_on (size s3) (λ high s4. read_on (mark (codes ",") s4) (λ d s5. read_on (size s5)
+    (λ low s6. read_on (mark (codes ")") s6) (λ q s7. Found (Bits at p x c high d low q) s7)))))))
 
 -- `if e then e else e endif`, behind its first symbol
 abbrev pub choice : Reader → ℕ → ℕ → List Symbol → Read Formula
 choice inner room at ss =
-    after (inner 0 (room - 1) ss) (λ c s1. after (mark (codes "then") s1) (λ t s2. after (inner 0 (room - 1) s2)
-    (λ x s3. after (mark (codes "else") s3) (λ f s4. after (inner 0 (room - 1) s4)
-    (λ y s5. after (mark (codes "endif") s5) (λ end s6. Found (Choose at c t x f y end) s6))))))
+    read_on (inner 0 (room - 1) ss) (λ c s1. read_on (mark (codes "then") s1) (λ t s2. read_on (inner 0 (room - 1) s2)
+    (λ x s3. read_on (mark (codes "else") s3) (λ f s4. read_on (inner 0 (room - 1) s4)
+    (λ y s5. read_on (mark (codes "endif") s5) (λ end s6. Found (Choose at c t x f y end) s6))))))
 
 -- an operator's one operand, which has no operator of two outermost
 abbrev pub operation : Reader → ℕ → Prefix → ℕ → List Symbol → Read Formula
-operation inner room op at ss = after (inner unary_level (room - 1) ss) (λ x s. Found (Unary op at x) s)
+operation inner room op at ss = read_on (inner unary_level (room - 1) ss) (λ x s. Found (Unary op at x) s)
 
 -- what begins with a keyword or a mark; `here` are the symbols from that one on
 abbrev pub begun : Reader → ℕ → List Symbol → ℕ → List Symbol → Option Beginning → Read Formula
@@ -122,14 +122,14 @@ operand inner room (Symbol.Quoted at text ∷ ss) = Stuck (Symbol.Quoted at text
 abbrev pub turn : Reader → (Formula → List Symbol → Read Formula) → ℕ → Formula → List Symbol → Option (Bin × ℕ × List Symbol) → Read Formula
 turn inner next room left here None = Found left here
 turn inner next room left here (Some (op, at, rest)) =
-    if nat_le room (depth left) then Stuck here else after (inner (suc (binary_level op)) (room - 1) rest) (λ right s. next (Binary op left at right) s)
+    if nat_le room (depth left) then Stuck here else read_on (inner (suc (binary_level op)) (room - 1) rest) (λ right s. next (Binary op left at right) s)
 
 abbrev mutual
   -- an expression whose outermost level is k or a stronger one and whose depth is at most room, as long as it goes, by at most
   -- n calls below one another
   pub climb : ℕ → Reader
   climb zero k room ss = Unread
-  climb (suc n) k room ss = after (operand (climb n) room ss) (λ x rest. more n k room x rest)
+  climb (suc n) k room ss = read_on (operand (climb n) room ss) (λ x rest. more n k room x rest)
 
   -- the operators of level k or a stronger one behind the expression left, with their right parts
   pub more : ℕ → ℕ → ℕ → Formula → List Symbol → Read Formula

@@ -18,7 +18,7 @@ use Rattle.nml_tree.specs.declared.tree.Item.{Item}
 use Rattle.readings.specs.Symbol.{Symbol}
 use Rattle.nml_tree.specs.Inverse.{expr_of, stmts_of}
 use Rattle.nml_tree.specs.Depth.{depth_limit}
-use Rattle.readings.specs.Reading.{Read, Found, Stuck, after, behind}
+use Rattle.readings.specs.Reading.{Read, Found, Stuck, read_on, behind}
 use Rattle.nml_grammar.specs.Reading.{climb}
 use Rattle.nml_grammar.specs.ReadingStatements.{statements}
 use Rattle.readings.specs.Readings.{to_end, Reading, ◌>>>◌, made, given, sign, optional, further, worded}
@@ -201,7 +201,7 @@ rule_from word composed x n ss (Some (eq, rest)) = or_rule word x eq n rest
 
 -- a rule behind its word
 abbrev pub rule : RuleWord → (Name → Reading Item) → Reading Item
-rule word composed n ss = after (name n ss) (λ x s. rule_from word (composed x) x n s (behind (codes "=") s))
+rule word composed n ss = read_on (name n ss) (λ x s. rule_from word (composed x) x n s (behind (codes "=") s))
 
 -- what stands behind each keyword
 abbrev pub behind_opening : Opening → ℕ → Reading Item

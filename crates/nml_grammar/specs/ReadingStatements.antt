@@ -4,7 +4,7 @@ use Rattle.nml_tree.specs.declared.names.Name.{Name}
 use Rattle.readings.specs.Symbol.{Symbol}
 use Rattle.nml_tree.specs.Formula.{Formula}
 use Rattle.nml_tree.specs.Block.{Block, Index, Done, Assign, Part, Halt, If, IfElse}
-use Rattle.readings.specs.Reading.{Read, Found, Unread, after, looked_up, behind, mark, with_room}
+use Rattle.readings.specs.Reading.{Read, Found, Unread, read_on, looked_up, behind, mark, with_room}
 use Rattle.nml_grammar.specs.Reading.{Reader, climb}
 
 -- ---- what a statement begins with
@@ -44,19 +44,19 @@ Blocks = ℕ → List Symbol → Read Block
 
 -- `NAME . action ;`, behind the dot
 abbrev pub part : Name → ℕ → List Symbol → Read (Block → Block)
-part n dot ss = after (mark (codes "action") ss) (λ at s1. after (mark (codes ";") s1) (λ semicolon s2. Found (Part n dot at semicolon) s2))
+part n dot ss = read_on (mark (codes "action") ss) (λ at s1. read_on (mark (codes ";") s1) (λ semicolon s2. Found (Part n dot at semicolon) s2))
 
 -- `= e ;`, behind a place
 abbrev pub assignment : Reader → ℕ → Name → Index → List Symbol → Read (Block → Block)
 assignment inner room n i ss =
-    with_room room ss (after (mark (codes "=") ss) (λ at s1. after (inner 0 (room - 1) s1) (λ e s2. after (mark (codes ";") s2)
+    with_room room ss (read_on (mark (codes "=") ss) (λ at s1. read_on (inner 0 (room - 1) s1) (λ e s2. read_on (mark (codes ";") s2)
     (λ semicolon s3. Found (Assign n i at e semicolon) s3))))
 
 -- what goes on from a name: an expression in brackets if there is one, the place being a node of its own, and the assignment
 abbrev pub place : Reader → ℕ → Name → List Symbol → Option (ℕ × List Symbol) → Read (Block → Block)
 place inner room n ss None = assignment inner room n None ss
 place inner room n ss (Some (p, rest)) =
-    with_room (room - 1) ss (after (inner 0 (room - 1 - 1) rest) (λ i s1. after (mark (codes "]") s1) (λ q s2. assignment inner room n (Some (p, i, q)) s2)))
+    with_room (room - 1) ss (read_on (inner 0 (room - 1 - 1) rest) (λ i s1. read_on (mark (codes "]") s1) (λ q s2. assignment inner room n (Some (p, i, q)) s2)))
 
 -- what begins with a name: the last is what stands behind a dot, if that is next
 abbrev pub naming : Reader → ℕ → Name → List Symbol → Option (ℕ × List Symbol) → Read (Block → Block)
@@ -66,21 +66,21 @@ naming inner room n ss (Some (dot, rest)) = part n dot rest
 -- `halt ( e ) ;`, behind its first symbol
 abbrev pub halting : Reader → ℕ → ℕ → List Symbol → Read (Block → Block)
 halting inner room at ss =
-    after (mark (codes "(") ss) (λ p s1. after (inner 0 (room - 1) s1) (λ e s2. after (mark (codes ")") s2)
-    (λ q s3. after (mark (codes ";") s3) (λ semicolon s4. Found (Halt at p e q semicolon) s4))))
+    read_on (mark (codes "(") ss) (λ p s1. read_on (inner 0 (room - 1) s1) (λ e s2. read_on (mark (codes ")") s2)
+    (λ q s3. read_on (mark (codes ";") s3) (λ semicolon s4. Found (Halt at p e q semicolon) s4))))
 
 -- `endif ;`, or `else stmts endif ;`: the last is what stands behind `else`, if that is next
 abbrev pub branch_end : Blocks → ℕ → ℕ → Formula → ℕ → Block → List Symbol → Option (ℕ × List Symbol) → Read (Block → Block)
 branch_end blocks room at c t xs ss None =
-    after (mark (codes "endif") ss) (λ end s1. after (mark (codes ";") s1) (λ semicolon s2. Found (If at c t xs end semicolon) s2))
+    read_on (mark (codes "endif") ss) (λ end s1. read_on (mark (codes ";") s1) (λ semicolon s2. Found (If at c t xs end semicolon) s2))
 branch_end blocks room at c t xs ss (Some (f, rest)) =
-    after (blocks (room - 1) rest) (λ ys s1. after (mark (codes "endif") s1) (λ end s2. after (mark (codes ";") s2)
+    read_on (blocks (room - 1) rest) (λ ys s1. read_on (mark (codes "endif") s1) (λ end s2. read_on (mark (codes ";") s2)
     (λ semicolon s3. Found (IfElse at c t xs f ys end semicolon) s3)))
 
 -- `if e then stmts endif ;`, or with `else stmts` before `endif`, behind its first symbol
 abbrev pub branching : Reader → Blocks → ℕ → ℕ → List Symbol → Read (Block → Block)
 branching inner blocks room at ss =
-    after (inner 0 (room - 1) ss) (λ c s1. after (mark (codes "then") s1) (λ t s2. after (blocks (room - 1) s2)
+    read_on (inner 0 (room - 1) ss) (λ c s1. read_on (mark (codes "then") s1) (λ t s2. read_on (blocks (room - 1) s2)
     (λ xs s3. branch_end blocks room at c t xs s3 (behind (codes "else") s3))))
 
 -- what begins so; `here` are the symbols from the first on
@@ -95,7 +95,7 @@ statement inner blocks room here (Branching at) ss = with_room room here (branch
 abbrev pub block_from : Reader → Blocks → ℕ → List Symbol → Option (Start × List Symbol) → Read Block
 block_from inner blocks room here None = Found Done here
 block_from inner blocks room here (Some (x, ss)) =
-    after (statement inner blocks room here x ss) (λ put s. after (blocks room s) (λ b rest. Found (put b) rest))
+    read_on (statement inner blocks room here x ss) (λ put s. read_on (blocks room s) (λ b rest. Found (put b) rest))
 
 -- the statements one behind the other, each of a depth of at most room, as long as one begins, by at most n calls below one another
 abbrev pub statements : ℕ → Blocks

@@ -8,8 +8,8 @@ use Rattle.readings.specs.Whole.{BeginsOne, EndsBefore}
 use Rattle.readings.specs.Symbol.{Symbol, first_place}
 use Rattle.nml_tree.specs.SpellsTree.{SpellsTree}
 use Rattle.nml_tree.specs.Floats.{float_places}
-use Rattle.nml_lex.specs.Form.{is_name, is_number, is_string, number_of}
-use Rattle.nml_lex.specs.Lexed.{Piece, HasPieces, IsStuckAt}
+use Rattle.nml_lex.specs.Form.{is_name, is_number, is_string, number_worth}
+use Rattle.nml_lex.specs.Lexed.{Lexeme, HasLexemes, IsStuckAt}
 use Rattle.nml_tree.specs.declared.fault.DescFault.TheVariants as faults
 
 -- ---- the symbols of tokens
@@ -27,10 +27,10 @@ abbrev pub unquoted : List ℕ → List ℕ
 unquoted text = take (length text - 2) (drop 1 text)
 
 -- a word, a number by its value, a string, or a mark
-abbrev pub symbol : Piece → Symbol
+abbrev pub symbol : Lexeme → Symbol
 symbol p =
     if is_name p.text then word_symbol p.at p.text
-    else if is_number p.text then Symbol.Number p.at (number_of p.text)
+    else if is_number p.text then Symbol.Number p.at (number_worth p.text)
     else if is_string p.text then Symbol.Quoted p.at (unquoted p.text)
     else Symbol.Fixed p.at p.text
 
@@ -38,8 +38,8 @@ symbol p =
 
 -- the tokens of the bytes are the description's
 pub record IsTree (bytes : List ℕ) (d : Desc) : Type 0 where
-  pub tokens : List Piece
-  pub has : HasPieces bytes tokens
+  pub tokens : List Lexeme
+  pub has : HasLexemes bytes tokens
   pub spells : SpellsTree (map symbol tokens) d
 
 -- some description has these symbols and others behind them
@@ -53,8 +53,8 @@ StopsBefore front left = EndsBefore SpellsTree front left
 -- No description has the tokens of the bytes: those in front still begin one, and with the token at this place they begin none. The place is
 -- the length of the bytes where they end too early.
 pub record HasNoTree (bytes : List ℕ) (at : ℕ) : Type 0 where
-  pub tokens : List Piece
-  pub has : HasPieces bytes tokens
+  pub tokens : List Lexeme
+  pub has : HasLexemes bytes tokens
   pub front : List Symbol
   pub left : List Symbol
   pub whole : map symbol tokens ≡ front ++ left

@@ -4,7 +4,7 @@ use Rattle.std.proofs.lemmas.Bool.{cond_both}
 use Rattle.std.proofs.lemmas.List.{map-append}
 use Rattle.nml_lex.specs.Cut.{Begins}
 use Rattle.nml_lex.specs.Form.{is_space, is_token, is_within, longest, longest_of}
-use Rattle.nml_lex.specs.Lexed.{Part, Space, Word, IsPart, IsWord, BeginsWith, Piece, bytes_of, pieces, size, piece_of}
+use Rattle.nml_lex.specs.Lexed.{Part, Space, Word, IsPart, IsWord, BeginsWith, Lexeme, bytes_of, lexemes, size, lexeme_of}
 use Rattle.nml_lex.specs.declared.scan.Token.{Token}
 
 -- one part more
@@ -18,52 +18,52 @@ size_is bytes [] rest b = ap length b ∙ omega arith
 size_is bytes (q ∷ parts) rest b = omega (arith, ap length b.1, length-append (bytes_of q) b.0, size_is b.0 parts rest b.3)
 
 -- a space adds no token, and a token stands behind those before it
-pieces_space : (at : ℕ) (parts : List Part) (text : List ℕ) → pieces at (parts ++ Space text ∷ []) ≡ pieces at parts
-pieces_space at [] text = refl
-pieces_space at (Space t ∷ parts) text = pieces_space (at + length t) parts text
-pieces_space at (Word t ∷ parts) text = ap (λ ps. record { at = at; text = t } ∷ ps) (pieces_space (at + length t) parts text)
+lexemes_space : (at : ℕ) (parts : List Part) (text : List ℕ) → lexemes at (parts ++ Space text ∷ []) ≡ lexemes at parts
+lexemes_space at [] text = refl
+lexemes_space at (Space t ∷ parts) text = lexemes_space (at + length t) parts text
+lexemes_space at (Word t ∷ parts) text = ap (λ ps. record { at = at; text = t } ∷ ps) (lexemes_space (at + length t) parts text)
 
--- the piece behind the parts
-abbrev piece_behind : ℕ → List Part → List ℕ → Piece
-piece_behind at parts text = record { at = at + size parts; text = text }
+-- the lexeme behind the parts
+abbrev lexeme_behind : ℕ → List Part → List ℕ → Lexeme
+lexeme_behind at parts text = record { at = at + size parts; text = text }
 
-abbrev piece_of_text : List ℕ → ℕ → Piece
-piece_of_text text n = record { at = n; text = text }
+abbrev lexeme_of_text : List ℕ → ℕ → Lexeme
+lexeme_of_text text n = record { at = n; text = text }
 
-behind_is : (at : ℕ) (q : Part) (parts : List Part) (text : List ℕ) → piece_behind (at + length (bytes_of q)) parts text ≡ piece_behind at (q ∷ parts) text
-behind_is at q parts text = ap (piece_of_text text) (add_assoc at (length (bytes_of q)) (size parts))
+behind_is : (at : ℕ) (q : Part) (parts : List Part) (text : List ℕ) → lexeme_behind (at + length (bytes_of q)) parts text ≡ lexeme_behind at (q ∷ parts) text
+behind_is at q parts text = ap (lexeme_of_text text) (add_assoc at (length (bytes_of q)) (size parts))
 
-pieces_word : (at : ℕ) (parts : List Part) (text : List ℕ) → pieces at (parts ++ Word text ∷ []) ≡ pieces at parts ++ piece_behind at parts text ∷ []
-pieces_word at [] text = ap (λ n. piece_of_text text n ∷ []) (sym (add-zero at))
-pieces_word at (Space t ∷ parts) text = pieces_word (at + length t) parts text ∙ ap (λ p. pieces (at + length t) parts ++ p ∷ []) (behind_is at (Space t) parts text)
-pieces_word at (Word t ∷ parts) text =
-    ap (λ ps. record { at = at; text = t } ∷ ps) (pieces_word (at + length t) parts text ∙ ap (λ p. pieces (at + length t) parts ++ p ∷ []) (behind_is at (Word t) parts text))
+lexemes_word : (at : ℕ) (parts : List Part) (text : List ℕ) → lexemes at (parts ++ Word text ∷ []) ≡ lexemes at parts ++ lexeme_behind at parts text ∷ []
+lexemes_word at [] text = ap (λ n. lexeme_of_text text n ∷ []) (sym (add-zero at))
+lexemes_word at (Space t ∷ parts) text = lexemes_word (at + length t) parts text ∙ ap (λ p. lexemes (at + length t) parts ++ p ∷ []) (behind_is at (Space t) parts text)
+lexemes_word at (Word t ∷ parts) text =
+    ap (λ ps. record { at = at; text = t } ∷ ps) (lexemes_word (at + length t) parts text ∙ ap (λ p. lexemes (at + length t) parts ++ p ∷ []) (behind_is at (Word t) parts text))
 
 -- the parts of these tokens stand in front, and the rest behind them
 pub record Begun (bytes : List ℕ) (tokens : List Token) (rest : List ℕ) : Type 0 where
   pub parts : List Part
   pub begins : BeginsWith bytes parts rest
-  pub is : map piece_of tokens ≡ pieces 0 parts
+  pub is : map lexeme_of tokens ≡ lexemes 0 parts
   pub place : length bytes ≡ size parts + length rest
 
 -- a part more, whose tokens are these
-begun_more : (bytes : List ℕ) (parts : List Part) (rest less : List ℕ) (p : Part) (tokens : List Token) → BeginsWith bytes parts rest → rest ≡ bytes_of p ++ less → IsPart p less → map piece_of tokens ≡ pieces 0 (parts ++ p ∷ [])
+begun_more : (bytes : List ℕ) (parts : List Part) (rest less : List ℕ) (p : Part) (tokens : List Token) → BeginsWith bytes parts rest → rest ≡ bytes_of p ++ less → IsPart p less → map lexeme_of tokens ≡ lexemes 0 (parts ++ p ∷ [])
     → Begun bytes tokens less
 begun_more bytes parts rest less p tokens b e i is =
     let more = begins_more bytes parts rest less p b e i in record { parts = parts ++ p ∷ []; begins = more; is = is; place = size_is bytes (parts ++ p ∷ []) less more }
 
 -- behind a space, and behind a token
 pub at_space : (bytes : List ℕ) (tokens : List Token) (rest less : List ℕ) → Begun bytes tokens rest → Begins is_space rest less → Begun bytes tokens less
-at_space bytes tokens rest less b s = begun_more bytes b.parts rest less (Space s.text) tokens b.begins s.is s.passes (b.is ∙ sym (pieces_space 0 b.parts s.text))
+at_space bytes tokens rest less b s = begun_more bytes b.parts rest less (Space s.text) tokens b.begins s.is s.passes (b.is ∙ sym (lexemes_space 0 b.parts s.text))
 
 pub at_word : (bytes : List ℕ) (tokens more : List Token) (rest less : List ℕ) (t : Token) → Begun bytes tokens rest → rest ≡ t.text.now ++ less → IsWord t.text.now less → t.at ≡ length bytes - length rest → more ≡ tokens ++ t ∷ []
     → Begun bytes more less
 at_word bytes tokens more rest less t b e w at is =
     begun_more bytes b.parts rest less (Word t.text.now) more b.begins e w
-    (ap (map piece_of) is ∙ map-append piece_of tokens (t ∷ []) ∙ ap (λ ps. ps ++ piece_of t ∷ []) b.is ∙ ap (λ p. pieces 0 b.parts ++ p ∷ []) (same_piece t (size b.parts) (let place = b.place in omega arith))
-    ∙ sym (pieces_word 0 b.parts t.text.now)) where
-      same_piece : (t : Token) (n : ℕ) → t.at ≡ 0 + n → piece_of t ≡ record { at = 0 + n; text = t.text.now }
-      same_piece t n e = ap (piece_of_text t.text.now) e
+    (ap (map lexeme_of) is ∙ map-append lexeme_of tokens (t ∷ []) ∙ ap (λ ps. ps ++ lexeme_of t ∷ []) b.is ∙ ap (λ p. lexemes 0 b.parts ++ p ∷ []) (same_lexeme t (size b.parts) (let place = b.place in omega arith))
+    ∙ sym (lexemes_word 0 b.parts t.text.now)) where
+      same_lexeme : (t : Token) (n : ℕ) → t.at ≡ 0 + n → lexeme_of t ≡ record { at = 0 + n; text = t.text.now }
+      same_lexeme t n e = ap (lexeme_of_text t.text.now) e
 
 -- ---- the longest token is one of the bytes' fronts
 

@@ -7,7 +7,7 @@ use Rattle.std.specs.Char.{is_digit, is_ascii_digit, is_ascii_hexdigit}
 use Rattle.std.specs.List.{AllPass, list_all}
 use Rattle.std.specs.Str.Parse.{digits_value}
 use Rattle.nk_base.specs.Byte.{is_name_start}
-use Rattle.nml_lex.specs.Form.{are_digits, is_binary_digit, is_binary, is_decimal, is_hexadecimal, is_name, is_number, is_string, is_token, is_within, number_of}
+use Rattle.nml_lex.specs.Form.{are_digits, is_binary_digit, is_binary, is_decimal, is_hexadecimal, is_name, is_number, is_string, is_token, is_within, number_worth}
 use Rattle.nml_lex.proofs.Words.{no_name, no_number, no_string}
 use Rattle.nml_lex.proofs.Lengths.{IsPrefix, hexadecimal_prefix, binary_prefix, other_prefix, number_token, only_first, no_other}
 use Rattle.nk_base.proofs.DigitsValue.{digit_is_no_name_start, decimal_digit}
@@ -27,7 +27,7 @@ binary_digit c h = grind (arith, nat_tests)
 -- these digits write the number
 pub record IsWorth (text ds : List ℕ) (r : ℕ) : Type 0 where
   pub digits : AllPass (λ c. is_digit c r) ds
-  pub worth : number_of text ≡ digits_value r ds
+  pub worth : number_worth text ≡ digits_value r ds
 
 prefixed_digits : (letter : ℕ) (test : ℕ → Bool) (text ds : List ℕ) → IsPrefix letter test → IsTrue (is_number text) → text ≡ 48 ∷ letter ∷ ds → are_digits test ds ≡ true
 prefixed_digits letter test text ds p h e = sym (p.only ds) ∙ ap is_number (sym e) ∙ h
@@ -38,7 +38,7 @@ hexadecimal_number text ds h e =
     let a = prefixed_digits 120 is_ascii_hexdigit text ds hexadecimal_prefix h e in
     record {
       digits = all_digits is_ascii_hexdigit 16 ds hexadecimal_digit (and_parts (nat_lt 0 (length ds)) (list_all is_ascii_hexdigit ds) a).1;
-      worth = ap number_of e ∙ cond-true (are_digits is_ascii_hexdigit ds) (digits_value 16 ds) (digits_value 10 (48 ∷ 120 ∷ ds)) a;
+      worth = ap number_worth e ∙ cond-true (are_digits is_ascii_hexdigit ds) (digits_value 16 ds) (digits_value 10 (48 ∷ 120 ∷ ds)) a;
     }
 
 pub binary_number : (text ds : List ℕ) → IsTrue (is_number text) → text ≡ 48 ∷ 98 ∷ ds → IsWorth text ds 2
@@ -46,7 +46,7 @@ binary_number text ds h e =
     let a = prefixed_digits 98 is_binary_digit text ds binary_prefix h e in
     record {
       digits = all_digits is_binary_digit 2 ds binary_digit (and_parts (nat_lt 0 (length ds)) (list_all is_binary_digit ds) a).1;
-      worth = ap number_of e ∙ cond-true (are_digits is_binary_digit ds) (digits_value 2 ds) (digits_value 10 (48 ∷ 98 ∷ ds)) a;
+      worth = ap number_worth e ∙ cond-true (are_digits is_binary_digit ds) (digits_value 2 ds) (digits_value 10 (48 ∷ 98 ∷ ds)) a;
     }
 
 pub decimal_number : (text : List ℕ) → IsTrue (is_number text) → ((more : List ℕ) → text ≡ 48 ∷ 120 ∷ more → ⊥) → ((more : List ℕ) → text ≡ 48 ∷ 98 ∷ more → ⊥) → IsWorth text text 10
@@ -61,7 +61,7 @@ decimal_number text h hexadecimal binary =
 
 -- what the digits come to is what the number is worth
 pub worth_is : (text ds : List ℕ) (r m : ℕ) (found : Option ℕ) → IsWorth text ds r → found ≡ cond (nat_lt (digits_value r ds) m) (Some (digits_value r ds)) None
-    → found ≡ cond (nat_lt (number_of text) m) (Some (number_of text)) None
+    → found ≡ cond (nat_lt (number_worth text) m) (Some (number_worth text)) None
 worth_is text ds r m found w e = e ∙ ap (λ n. cond (nat_lt n m) (Some n) None) (sym w.worth)
 
 -- ---- the limits
@@ -94,20 +94,20 @@ some_below n m = choice (nat_lt n m) n where
   choice true n = refl
   choice false n = refl
 
-pub number_at : (c : ℕ) (t : List ℕ) → is_ascii_digit c ≡ true → IsTrue (is_token (c ∷ t)) → nat_lt (number_of (c ∷ t)) (2 ^ 64) ≡ is_within (c ∷ t)
+pub number_at : (c : ℕ) (t : List ℕ) → is_ascii_digit c ≡ true → IsTrue (is_token (c ∷ t)) → nat_lt (number_worth (c ∷ t)) (2 ^ 64) ≡ is_within (c ∷ t)
 number_at c t h k =
-    sym (cond-false (is_name (c ∷ t)) (nat_le (length (c ∷ t)) 64) _ (no_name c t (digit_is_no_name_start c h)) ∙ cond-true (is_number (c ∷ t)) (nat_lt (number_of (c ∷ t)) (2 ^ 64)) _ (sym (number_token c t h) ∙ k))
+    sym (cond-false (is_name (c ∷ t)) (nat_le (length (c ∷ t)) 64) _ (no_name c t (digit_is_no_name_start c h)) ∙ cond-true (is_number (c ∷ t)) (nat_lt (number_worth (c ∷ t)) (2 ^ 64)) _ (sym (number_token c t h) ∙ k))
 
 pub number_within : (text : List ℕ) (c : ℕ) (b : Bool) (found : Option ℕ) → Some c ≡ slice_get text 0 → is_ascii_digit c ≡ true → IsTrue (is_token text) → b ≡ is_some found
-    → found ≡ cond (nat_lt (number_of text) (2 ^ 64)) (Some (number_of text)) None → b ≡ is_within text
+    → found ≡ cond (nat_lt (number_worth text) (2 ^ 64)) (Some (number_worth text)) None → b ≡ is_within text
 number_within text c b found e h k is f =
     let i = first_byte text c e in
-    is ∙ ap is_some f ∙ some_below (number_of text) (2 ^ 64) ∙ ap (λ t. nat_lt (number_of t) (2 ^ 64)) i ∙ number_at c (drop 1 text) h (ap is_token (sym i) ∙ k) ∙ ap is_within (sym i)
+    is ∙ ap is_some f ∙ some_below (number_worth text) (2 ^ 64) ∙ ap (λ t. nat_lt (number_worth t) (2 ^ 64)) i ∙ number_at c (drop 1 text) h (ap is_token (sym i) ∙ k) ∙ ap is_within (sym i)
 
 -- a mark has no limit
 mark_at : (c : ℕ) (t : List ℕ) → is_name_start c ≡ false → is_ascii_digit c ≡ false → eqb c 34 ≡ false → true ≡ is_within (c ∷ t)
 mark_at c t h g f =
-    sym (cond-false (is_name (c ∷ t)) (nat_le (length (c ∷ t)) 64) _ (no_name c t h) ∙ cond-false (is_number (c ∷ t)) (nat_lt (number_of (c ∷ t)) (2 ^ 64)) _ (no_number c t g)
+    sym (cond-false (is_name (c ∷ t)) (nat_le (length (c ∷ t)) 64) _ (no_name c t h) ∙ cond-false (is_number (c ∷ t)) (nat_lt (number_worth (c ∷ t)) (2 ^ 64)) _ (no_number c t g)
     ∙ cond-false (is_string (c ∷ t)) (nat_le (length (c ∷ t)) 202) true (no_string c t f))
 
 pub mark_within : (text : List ℕ) (c : ℕ) → Some c ≡ slice_get text 0 → is_name_start c ≡ false → is_ascii_digit c ≡ false → eqb c 34 ≡ false → true ≡ is_within text

@@ -4,7 +4,7 @@ use Rattle.std.proofs.lemmas.Bool.{and_parts, both_ways, not-true, or_left, or_r
 use Rattle.std.specs.List.{list_all}
 use Rattle.nk_base.specs.Byte.{is_gap}
 use Rattle.nml_lex.specs.Form.{is_end, is_ended, is_token, is_within, longest}
-use Rattle.nml_lex.specs.Lexed.{Part, Space, Word, IsPart, IsWord, IsStuck, IsStuckAt, BeginsWith, HasPieces, Piece, bytes_of, pieces, size}
+use Rattle.nml_lex.specs.Lexed.{Part, Space, Word, IsPart, IsWord, IsStuck, IsStuckAt, BeginsWith, HasLexemes, Lexeme, bytes_of, lexemes, size}
 use Rattle.nml_lex.proofs.Spaces.{Form, Blank, Line, Block, form_of, no_gap, same_space}
 use Rattle.nml_lex.proofs.Words.{is_apart, no_token, same_word}
 
@@ -114,11 +114,11 @@ stuck_halts l s = record { none = stuck_part l s }
 -- ---- the law
 
 -- the three clauses, each by the two lists of parts
-pub one : (bytes : List ℕ) (ps qs : List Piece) → HasPieces bytes ps → HasPieces bytes qs → ps ≡ qs
+pub one : (bytes : List ℕ) (ps qs : List Lexeme) → HasLexemes bytes ps → HasLexemes bytes qs → ps ≡ qs
 one bytes ps qs h g =
-    let m = same_parts bytes h.parts g.parts h.left g.left h.begins g.begins (end_halts h.left h.ends) (end_halts g.left g.ends) in h.is ∙ ap (pieces 0) m.parts ∙ sym g.is
+    let m = same_parts bytes h.parts g.parts h.left g.left h.begins g.begins (end_halts h.left h.ends) (end_halts g.left g.ends) in h.is ∙ ap (lexemes 0) m.parts ∙ sym g.is
 
-pub never : (bytes : List ℕ) (ps : List Piece) (at : ℕ) → HasPieces bytes ps → IsStuckAt bytes at → ⊥
+pub never : (bytes : List ℕ) (ps : List Lexeme) (at : ℕ) → HasLexemes bytes ps → IsStuckAt bytes at → ⊥
 never bytes ps at h g =
     let m = same_parts bytes h.parts g.parts h.left g.left h.begins g.begins (end_halts h.left h.ends) (stuck_halts g.left g.stuck) in
     both_ways (is_end g.left) g.stuck.no_end (sym (ap is_end m.left) ∙ h.ends)

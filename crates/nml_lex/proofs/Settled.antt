@@ -4,7 +4,7 @@ use Rattle.std.proofs.lemmas.Bool.{and_parts, both_ways}
 use Rattle.nk_base.specs.Byte.{is_gap}
 use Rattle.nml_lex.specs.Cut.{Begins, BeginsNone}
 use Rattle.nml_lex.specs.Form.{is_end, is_ended, is_shut, is_space, is_within, longest}
-use Rattle.nml_lex.specs.Lexed.{Part, Space, Word, IsPart, IsStuck, IsStuckAt, BeginsWith, HasPieces, Piece, bytes_of, pieces, size}
+use Rattle.nml_lex.specs.Lexed.{Part, Space, Word, IsPart, IsStuck, IsStuckAt, BeginsWith, HasLexemes, Lexeme, bytes_of, lexemes, size}
 use Rattle.nml_lex.proofs.Cuts.{Narrows, IsOpen, line_step, block_step, line_space, block_space, blank_space, line_no_space, block_no_space, other_no_space}
 use Rattle.nml_lex.proofs.Begun.{longest_within, word_is, word_front}
 
@@ -146,9 +146,9 @@ parted (suc n) bytes le = at_end (parted n) (is_end bytes) refl
     at_end more false h = at_space more h (space_cut bytes)
 
 -- the tokens among them, or the place
-answered : (bytes : List ℕ) → Parted bytes → ((ps : List Piece) × HasPieces bytes ps) ⊎ ((at : ℕ) × IsStuckAt bytes at)
-answered bytes (Whole parts left b h) = inl (pieces 0 parts, record { parts = parts; left = left; begins = b; ends = h; is = refl })
+answered : (bytes : List ℕ) → Parted bytes → ((ps : List Lexeme) × HasLexemes bytes ps) ⊎ ((at : ℕ) × IsStuckAt bytes at)
+answered bytes (Whole parts left b h) = inl (lexemes 0 parts, record { parts = parts; left = left; begins = b; ends = h; is = refl })
 answered bytes (Halted parts left b h) = inr (size parts, record { parts = parts; left = left; begins = b; stuck = h; is = refl })
 
-pub some : (bytes : List ℕ) → ((ps : List Piece) × HasPieces bytes ps) ⊎ ((at : ℕ) × IsStuckAt bytes at)
+pub some : (bytes : List ℕ) → ((ps : List Lexeme) × HasLexemes bytes ps) ⊎ ((at : ℕ) × IsStuckAt bytes at)
 some bytes = answered bytes (parted (length bytes) bytes (omega arith))

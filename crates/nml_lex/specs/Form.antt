@@ -40,8 +40,8 @@ abbrev pub is_number : List ℕ → Bool
 is_number text = is_decimal text || (is_hexadecimal text || is_binary text)
 
 -- what a number is worth
-abbrev pub number_of : List ℕ → ℕ
-number_of text = if is_hexadecimal text then digits_value 16 (drop 2 text) else if is_binary text then digits_value 2 (drop 2 text) else digits_value 10 text
+abbrev pub number_worth : List ℕ → ℕ
+number_worth text = if is_hexadecimal text then digits_value 16 (drop 2 text) else if is_binary text then digits_value 2 (drop 2 text) else digits_value 10 text
 
 -- a character of a string: 32 to 126, and no double quote
 abbrev pub is_quoted : ℕ → Bool
@@ -73,7 +73,7 @@ is_token text = is_name text || (is_number text || (is_string text || is_mark te
 abbrev pub is_within : List ℕ → Bool
 is_within text =
     if is_name text then nat_le (length text) 64
-    else if is_number text then nat_lt (number_of text) (2 ^ 64)
+    else if is_number text then nat_lt (number_worth text) (2 ^ 64)
     else if is_string text then nat_le (length text) 202
     else true
 

@@ -6,7 +6,7 @@ use Rattle.nml_tree.specs.declared.fault.DescFault.{DescFault}
 use Rattle.nml_tree.specs.declared.fault.DescFault.TheVariants as faults
 
 -- a token's bytes and their place, counted in bytes from 0
-pub record Piece : Type 0 where
+pub record Lexeme : Type 0 where
   pub at : ℕ
   pub text : List ℕ
 
@@ -36,10 +36,10 @@ BeginsWith bytes [] left = bytes ≡ left
 BeginsWith bytes (part ∷ parts) left = (rest : List ℕ) × (bytes ≡ bytes_of part ++ rest) × IsPart part rest × BeginsWith rest parts left
 
 -- the tokens among the parts, the first part standing at this place
-abbrev pub pieces : ℕ → List Part → List Piece
-pieces at [] = []
-pieces at (Space text ∷ parts) = pieces (at + length text) parts
-pieces at (Word text ∷ parts) = record { at = at; text = text } ∷ pieces (at + length text) parts
+abbrev pub lexemes : ℕ → List Part → List Lexeme
+lexemes at [] = []
+lexemes at (Space text ∷ parts) = lexemes (at + length text) parts
+lexemes at (Word text ∷ parts) = record { at = at; text = text } ∷ lexemes (at + length text) parts
 
 -- how many bytes the parts have
 abbrev pub size : List Part → ℕ
@@ -47,12 +47,12 @@ size [] = 0
 size (part ∷ parts) = length (bytes_of part) + size parts
 
 -- the bytes have these tokens, and nothing else but what separates them
-pub record HasPieces (bytes : List ℕ) (ps : List Piece) : Type 0 where
+pub record HasLexemes (bytes : List ℕ) (ps : List Lexeme) : Type 0 where
   pub parts : List Part
   pub left : List ℕ
   pub begins : BeginsWith bytes parts left
   pub ends : IsTrue (is_end left)
-  pub is : ps ≡ pieces 0 parts
+  pub is : ps ≡ lexemes 0 parts
 
 -- nothing that separates tokens stands in front
 abbrev pub HasNoSpace : List ℕ → Type 0
@@ -73,8 +73,8 @@ pub record IsStuckAt (bytes : List ℕ) (at : ℕ) : Type 0 where
   pub is : at ≡ size parts
 
 -- a token without where it lies in memory
-abbrev pub piece_of : Token → Piece
-piece_of t = record { at = t.at; text = t.text.now }
+abbrev pub lexeme_of : Token → Lexeme
+lexeme_of t = record { at = t.at; text = t.text.now }
 
 -- a fault of tokens: the bytes are stuck at this place; want of memory is free, and no other fault is one
 abbrev pub IsLexFault : List ℕ → DescFault → Type 0

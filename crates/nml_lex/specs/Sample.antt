@@ -1,7 +1,7 @@
 -- Worked examples of the definitions, each by computation.
 use Rattle.std.specs.Prelude.{◌≡◌, ◌++◌, ℕ, List, true, false, codes, refl, [], ◌∷◌, length, IsTrue}
-use Rattle.nml_lex.specs.Form.{is_end, is_space, is_token, is_within, longest, number_of}
-use Rattle.nml_lex.specs.Lexed.{HasPieces, IsWord, Space, Word}
+use Rattle.nml_lex.specs.Form.{is_end, is_space, is_token, is_within, longest, number_worth}
+use Rattle.nml_lex.specs.Lexed.{HasLexemes, IsWord, Space, Word}
 
 -- the longest token is taken
 double_mark : longest (codes "<<=1") ≡ 2
@@ -20,10 +20,10 @@ wrong_binary = refl
 letters_behind : longest (codes "12ab") ≡ 2
 letters_behind = refl
 
-hexadecimal : number_of (codes "0xfF") ≡ 255
+hexadecimal : number_worth (codes "0xfF") ≡ 255
 hexadecimal = refl
 
-leading_zeros : number_of (codes "007") ≡ 7
+leading_zeros : number_worth (codes "007") ≡ 7
 leading_zeros = refl
 
 -- a string without its end is no token, and one quote behind it is none of it
@@ -51,7 +51,7 @@ abbrev pub word : {text rest : List ℕ} → IsTrue (is_token text) → longest 
 word a b c = record { token = a; longest_is = b; within = c }
 
 -- ` op//\nf` has two tokens, at 1 and at 6
-two_tokens : HasPieces (codes " op//\nf") (record { at = 1; text = codes "op" } ∷ record { at = 6; text = codes "f" } ∷ [])
+two_tokens : HasLexemes (codes " op//\nf") (record { at = 1; text = codes "op" } ∷ record { at = 6; text = codes "f" } ∷ [])
 two_tokens = record {
   parts = Space (codes " ") ∷ Word (codes "op") ∷ Space (codes "//\n") ∷ Word (codes "f") ∷ [];
   left = [];

@@ -1,12 +1,12 @@
 ghost use Rattle.std.specs.Prelude.{◌≡◌, ◌⊎◌, ℕ, List};
-ghost use Rattle.nml_lex.specs.Lexed.{HasPieces, IsStuckAt, Piece};
+ghost use Rattle.nml_lex.specs.Lexed.{HasLexemes, IsStuckAt, Lexeme};
 
 /// A law: no bytes have two lists of tokens; where they have one they are stuck nowhere; and they are stuck at one place at most.
 ///
 /// What a token is, is this project's own rule.
 pub fn one_lexing()
-    ensures one { (bytes : List ℕ) (ps qs : List Piece) → HasPieces bytes ps → HasPieces bytes qs → ps ≡ qs }
-    ensures never { (bytes : List ℕ) (ps : List Piece) (at : ℕ) → HasPieces bytes ps → IsStuckAt bytes at → ⊥ }
+    ensures one { (bytes : List ℕ) (ps qs : List Lexeme) → HasLexemes bytes ps → HasLexemes bytes qs → ps ≡ qs }
+    ensures never { (bytes : List ℕ) (ps : List Lexeme) (at : ℕ) → HasLexemes bytes ps → IsStuckAt bytes at → ⊥ }
     ensures place { (bytes : List ℕ) (at other : ℕ) → IsStuckAt bytes at → IsStuckAt bytes other → at ≡ other }
 {}
 
@@ -14,5 +14,5 @@ pub fn one_lexing()
 ///
 /// What a token is, is this project's own rule.
 pub fn some_lexing()
-    ensures { (bytes : List ℕ) → ((ps : List Piece) × HasPieces bytes ps) ⊎ ((at : ℕ) × IsStuckAt bytes at) }
+    ensures { (bytes : List ℕ) → ((ps : List Lexeme) × HasLexemes bytes ps) ⊎ ((at : ℕ) × IsStuckAt bytes at) }
 {}

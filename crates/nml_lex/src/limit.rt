@@ -39,7 +39,7 @@ pub fn is_within(text: &[u8]) -> bool
 /// It is decimal digits, `0x` and hexadecimal digits of either case, or `0b` and binary digits, which is this project's own rule.
 pub fn number_value(text: &[u8]) -> Option<u64>
     requires { IsTrue (spec.is_number text.now) }
-    ensures { result ≡ (if nat_lt (spec.number_of text.now) (2 ^ 64) then Some (spec.number_of text.now) else None) }
+    ensures { result ≡ (if nat_lt (spec.number_worth text.now) (2 ^ 64) then Some (spec.number_worth text.now) else None) }
 {
     if let Some(digits) = behind_prefix(text, b"0x") {
         return value_of(digits, 16);

@@ -1,5 +1,5 @@
 ghost use Rattle.std.specs.Prelude.{◌≤◌, length, map, MatchResult};
-ghost use Rattle.nml_lex.specs.Lexed.{HasPieces, IsLexFault, piece_of};
+ghost use Rattle.nml_lex.specs.Lexed.{HasLexemes, IsLexFault, lexeme_of};
 
 use crate::limit::is_within;
 use crate::space::{behind_space, is_end};
@@ -26,7 +26,7 @@ pub struct Tokens<'a> {
 /// is want of memory. What a token is, and what stands between tokens, is this project's own rule; docs/LANGUAGES.md states it.
 pub fn lex(alloc: Global, bytes: &[u8]) -> Result<Tokens<'_>, DescFault>
     requires { length bytes.now ≤ 4194304 }
-    ensures { MatchResult result (λ t. HasPieces bytes.now (map piece_of t.list.items)) (IsLexFault bytes.now) }
+    ensures { MatchResult result (λ t. HasLexemes bytes.now (map lexeme_of t.list.items)) (IsLexFault bytes.now) }
 {
     let mut list = Vec::new(alloc);
     let mut rest = bytes;

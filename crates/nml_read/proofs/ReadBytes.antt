@@ -9,7 +9,7 @@ use Rattle.nml_tree.specs.declared.fault.DescFault.{DescFault}
 use Rattle.readings.specs.Symbol.{Symbol, first_place}
 use Rattle.nml_tree.specs.Floats.{float_places}
 use Rattle.nml_tree.specs.SpellsTree.{SpellsTree}
-use Rattle.nml_lex.specs.Lexed.{Part, Space, Word, BeginsWith, HasPieces, Piece, pieces, piece_of}
+use Rattle.nml_lex.specs.Lexed.{Part, Space, Word, BeginsWith, HasLexemes, Lexeme, lexemes, lexeme_of}
 use Rattle.nml_lex.specs.declared.scan.Token.{Token}
 use Rattle.readings.specs.Reading.{Found}
 use Rattle.nml_grammar.specs.ReadingItems.{item_list}
@@ -23,24 +23,24 @@ use Rattle.readings.specs.declared.stop.Stop.TheVariants as stops
 -- ---- tokens
 
 -- each token is one, and within its limit
-sound_pieces : (bytes : List ℕ) (parts : List Part) (left : List ℕ) (at : ℕ) → BeginsWith bytes parts left → AllByRecursion IsSound (pieces at parts)
-sound_pieces bytes [] left at b = tt
-sound_pieces bytes (Space text ∷ parts) left at b = sound_pieces b.0 parts left (at + length text) b.3
-sound_pieces bytes (Word text ∷ parts) left at b = ((b.2.token, b.2.within), sound_pieces b.0 parts left (at + length text) b.3)
+sound_lexemes : (bytes : List ℕ) (parts : List Part) (left : List ℕ) (at : ℕ) → BeginsWith bytes parts left → AllByRecursion IsSound (lexemes at parts)
+sound_lexemes bytes [] left at b = tt
+sound_lexemes bytes (Space text ∷ parts) left at b = sound_lexemes b.0 parts left (at + length text) b.3
+sound_lexemes bytes (Word text ∷ parts) left at b = ((b.2.token, b.2.within), sound_lexemes b.0 parts left (at + length text) b.3)
 
 -- at each place
-at_place : (ts : List Token) → AllByRecursion IsSound (map piece_of ts) → (k : ℕ) (d : Token) → k < length ts → IsSound (piece_of (slice_index_or ts k d))
+at_place : (ts : List Token) → AllByRecursion IsSound (map lexeme_of ts) → (k : ℕ) (d : Token) → k < length ts → IsSound (lexeme_of (slice_index_or ts k d))
 at_place [] h k d lt = elim lt [ ]
 at_place (t ∷ ts) h zero d lt = h.0
 at_place (t ∷ ts) h (suc k) d lt = at_place ts h.1 k d (omega (arith, lt))
 
-pub sound_tokens : (bytes : List ℕ) (ts : List Token) → HasPieces bytes (map piece_of ts) → (k : ℕ) (d : Token) → k < length ts → IsSound (piece_of (slice_index_or ts k d))
-sound_tokens bytes ts h = at_place ts (subst (AllByRecursion IsSound) (sym h.is) (sound_pieces bytes h.parts h.left 0 h.begins))
+pub sound_tokens : (bytes : List ℕ) (ts : List Token) → HasLexemes bytes (map lexeme_of ts) → (k : ℕ) (d : Token) → k < length ts → IsSound (lexeme_of (slice_index_or ts k d))
+sound_tokens bytes ts h = at_place ts (subst (AllByRecursion IsSound) (sym h.is) (sound_lexemes bytes h.parts h.left 0 h.begins))
 
 -- ---- a description
 
 -- what was found to the end is the description of the bytes
-pub is_tree : (bytes : List ℕ) (ps : List Piece) (ss : List Symbol) (xs : List Item) → HasPieces bytes ps → ss ≡ map symbol ps → Comes item_list ss (Found xs []) → IsTree bytes (record { items = xs })
+pub is_tree : (bytes : List ℕ) (ps : List Lexeme) (ss : List Symbol) (xs : List Item) → HasLexemes bytes ps → ss ≡ map symbol ps → Comes item_list ss (Found xs []) → IsTree bytes (record { items = xs })
 is_tree bytes ps ss xs h is c =
     record { tokens = ps; has = h; spells = subst (λ us. SpellsTree us (record { items = xs })) is (found_tree c.calls ss xs [] (c.is c.calls (omega arith))).1 }
 
@@ -63,7 +63,7 @@ behind_front (s ∷ front) rest left is =
     ap (λ n. drop n (s ∷ (front ++ rest))) one_more ∙ behind_front front rest left is
 
 -- where the reading is stuck there is none
-pub has_no_tree : (bytes : List ℕ) (ps : List Piece) (ss : List Symbol) (left at : ℕ) → HasPieces bytes ps → ss ≡ map symbol ps → Fails (stops.Stuck left) item_list ss → at ≡ first_place (length bytes) (drop (length ss - left) ss) → HasNoTree bytes at
+pub has_no_tree : (bytes : List ℕ) (ps : List Lexeme) (ss : List Symbol) (left at : ℕ) → HasLexemes bytes ps → ss ≡ map symbol ps → Fails (stops.Stuck left) item_list ss → at ≡ first_place (length bytes) (drop (length ss - left) ss) → HasNoTree bytes at
 has_no_tree bytes ps ss left at h is (rest, n_is, c) e =
     let t = stuck_tree ss rest (c.calls, c.is) in
     record {

@@ -6,7 +6,7 @@ use Rattle.nml_tree.specs.declared.tree.Item.{Item}
 use Rattle.nml_tree.specs.declared.tree.Pars.{Pars}
 use Rattle.nml_tree.specs.declared.tree.RuleWord.{RuleWord}
 use Rattle.readings.specs.Symbol.{Symbol}
-use Rattle.readings.specs.Reading.{Read, Found, after, behind}
+use Rattle.readings.specs.Reading.{Read, Found, read_on, behind}
 use Rattle.readings.specs.Readings.{Reading}
 use Rattle.nml_grammar.specs.Words.{name}
 use Rattle.nml_grammar.specs.ReadingItems.{rule, rule_from, or_rule, pars, pars_from, some_pars}
@@ -18,7 +18,7 @@ use Rattle.readings.specs.declared.stop.Stop.TheVariants as stops
 -- ---- what goes on behind what was found, said of both
 
 pub says_on : {A B C : Type 0} (found : C → Read B) (r : Result C Stop) (reads : Reading A) (ss : List Symbol) (x : A) (rest : List Symbol) (next : ℕ → A → List Symbol → Read B) → Comes reads ss (Found x rest) → Says found r (λ n s. next n x s) rest
-    → Says found r (λ n s. after (reads n s) (next n)) ss
+    → Says found r (λ n s. read_on (reads n s) (next n)) ss
 says_on found (Ok y) reads ss x rest next h k = goes_on next h k
 says_on found (Err (stops.Stuck left)) reads ss x rest next h (t, is, k) = (t, is, goes_on next h k)
 says_on found (Err stops.Memory) reads ss x rest next h t = tt
@@ -53,9 +53,9 @@ no_pars ss q rest e = at_once (λ n. ap (pars_from n ss) e)
 -- there are some
 pub has_pars : (ss : List Symbol) (ps : Pars) (rest : List Symbol) → behind (codes ")") ss ≡ None → Comes some_pars ss (Found ps rest) → Comes pars ss (Found (Some ps) rest)
 has_pars ss ps rest e h =
-    record { calls = h.calls; is = λ n le. ap (pars_from n ss) e ∙ ap (λ a. after a (λ x s. Found (Some x) s)) (h.is n le) }
+    record { calls = h.calls; is = λ n le. ap (pars_from n ss) e ∙ ap (λ a. read_on a (λ x s. Found (Some x) s)) (h.is n le) }
 
 pub pars_fail : (stop : Stop) (ss : List Symbol) → behind (codes ")") ss ≡ None → Fails stop some_pars ss → Fails stop pars ss
 pars_fail (stops.Stuck left) ss e (rest, is, h) =
-    (rest, is, record { calls = h.calls; is = λ n le. ap (pars_from n ss) e ∙ ap (λ a. after a (λ x s. Found (Some x) s)) (h.is n le) })
+    (rest, is, record { calls = h.calls; is = λ n le. ap (pars_from n ss) e ∙ ap (λ a. read_on a (λ x s. Found (Some x) s)) (h.is n le) })
 pars_fail stops.Memory ss e t = tt

@@ -1,6 +1,6 @@
 //! The symbols of tokens.
 ghost use Rattle.std.specs.Prelude.{◌≡◌, IfOk, map, All};
-ghost use Rattle.nml_lex.specs.Lexed.{piece_of};
+ghost use Rattle.nml_lex.specs.Lexed.{lexeme_of};
 ghost use Rattle.readings.specs.Seen.{seen};
 ghost use Rattle.nml_read.specs.Seen.{IsSound};
 ghost use Rattle.nml_grammar.specs.Trees.{symbol, word_symbol};
@@ -14,8 +14,8 @@ use std::alloc::Global;
 
 /// The symbols of tokens.
 pub fn signs<'a>(alloc: Global, tokens: &[Token<'a>]) -> Result<Vec<Sign<'a>>, Memory>
-    requires { All (λ t. IsSound (piece_of t)) tokens.now }
-    ensures { IfOk result (λ v. map seen v.items ≡ map symbol (map piece_of tokens.now)) }
+    requires { All (λ t. IsSound (lexeme_of t)) tokens.now }
+    ensures { IfOk result (λ v. map seen v.items ≡ map symbol (map lexeme_of tokens.now)) }
 {
     let mut found = Vec::new(alloc);
     for token in tokens {
@@ -26,8 +26,8 @@ pub fn signs<'a>(alloc: Global, tokens: &[Token<'a>]) -> Result<Vec<Sign<'a>>, M
 
 /// The symbol of a token.
 fn sign_of<'a>(token: &Token<'a>) -> Sign<'a>
-    requires { IsSound (piece_of token.now) }
-    ensures { seen result ≡ symbol (piece_of token.now) }
+    requires { IsSound (lexeme_of token.now) }
+    ensures { seen result ≡ symbol (lexeme_of token.now) }
 {
     let Token { at, text } = *token;
     let Some(first) = text.first() else {

@@ -9,7 +9,7 @@ use Rattle.readings.specs.Symbol.{Symbol}
 use Rattle.nml_tree.specs.Formula.{Formula, formula}
 use Rattle.nml_tree.specs.Block.{Block, Index, Done, Assign, Part, Halt, If, IfElse, chained, stmt, block, index}
 use Rattle.nml_tree.proofs.BlockLaws.{stmt-Assign, stmt-Part, stmt-Halt, stmt-If, stmt-If_else}
-use Rattle.readings.specs.Reading.{Read, Found, Stuck, Unread, after, behind, mark, with_room}
+use Rattle.readings.specs.Reading.{Read, Found, Stuck, Unread, read_on, behind, mark, with_room}
 use Rattle.nml_grammar.specs.Reading.{climb}
 use Rattle.readings.specs.Readings.{Reading, ◌>>>◌, made, sign, optional, optional_from}
 use Rattle.nml_grammar.specs.ReadingStatements.{Start, start, assignment, branch_end, statement, block_from, statements}
@@ -45,16 +45,16 @@ put-Halt at p x q semicolon = λ i rest. stmt-Halt at p x q semicolon rest i
 
 -- three, of which the last alone is to be read
 three_last : {A B C D : Type 0} (c : Read C) (x : A) (y : B) (make : A → B → C → D)
-    → after c (λ z u. Found (make x y z) u) ≡ after {A = A × (B × C)}
-    (after {B = A × (B × C)} (after {B = B × C} c (λ z u. Found (y, z) u)) (λ q u. Found (x, q) u)) (λ p u. Found (make p.0 p.1.0 p.1.1) u)
+    → read_on c (λ z u. Found (make x y z) u) ≡ read_on {A = A × (B × C)}
+    (read_on {B = A × (B × C)} (read_on {B = B × C} c (λ z u. Found (y, z) u)) (λ q u. Found (x, q) u)) (λ p u. Found (make p.0 p.1.0 p.1.1) u)
 three_last (Found z u) x y make = refl
 three_last (Stuck u) x y make = refl
 three_last Unread x y make = refl
 
 -- three, of which the first was read
 three_later : {A B C D : Type 0} (b : Read B) (third : List Symbol → Read C) (x : A) (make : A → B → C → D)
-    → after b (λ y t. after (third t) (λ z u. Found (make x y z) u))
-    ≡ after {A = A × (B × C)} (after {B = A × (B × C)} (after {B = B × C} b (λ y t. after (third t) (λ z u. Found (y, z) u)))
+    → read_on b (λ y t. read_on (third t) (λ z u. Found (make x y z) u))
+    ≡ read_on {A = A × (B × C)} (read_on {B = A × (B × C)} (read_on {B = B × C} b (λ y t. read_on (third t) (λ z u. Found (y, z) u)))
     (λ q u. Found (x, q) u)) (λ p u. Found (make p.0 p.1.0 p.1.1) u)
 three_later (Found y t) third x make = three_last (third t) x y make
 three_later (Stuck t) third x make = refl
@@ -62,17 +62,17 @@ three_later Unread third x make = refl
 
 -- three one behind the other are read as one
 three_as_one : {A B C D : Type 0} (a : Read A) (second : List Symbol → Read B) (third : List Symbol → Read C) (make : A → B → C → D)
-    → after a (λ x s. after (second s) (λ y t. after (third t) (λ z u. Found (make x y z) u)))
-    ≡ after {A = A × (B × C)} (after {B = A × (B × C)} a (λ x s. after
-    (after {B = B × C} (second s) (λ y t. after (third t) (λ z u. Found (y, z) u))) (λ q u. Found (x, q) u)))
+    → read_on a (λ x s. read_on (second s) (λ y t. read_on (third t) (λ z u. Found (make x y z) u)))
+    ≡ read_on {A = A × (B × C)} (read_on {B = A × (B × C)} a (λ x s. read_on
+    (read_on {B = B × C} (second s) (λ y t. read_on (third t) (λ z u. Found (y, z) u))) (λ q u. Found (x, q) u)))
     (λ p u. Found (make p.0 p.1.0 p.1.1) u)
 three_as_one (Found x s) second third make = three_later (second s) third x make
 three_as_one (Stuck s) second third make = refl
 three_as_one Unread second third make = refl
 
 -- what is made of something, where there is room for a further node
-made_in_room : {A B : Type 0} (narrow : Bool) (here : List Symbol) (a : Read A) (b : Read B) (make : A → B) → b ≡ after a (λ x s. Found (make x) s)
-    → (if narrow then Stuck here else b) ≡ after (if narrow then Stuck here else a) (λ x s. Found (make x) s)
+made_in_room : {A B : Type 0} (narrow : Bool) (here : List Symbol) (a : Read A) (b : Read B) (make : A → B) → b ≡ read_on a (λ x s. Found (make x) s)
+    → (if narrow then Stuck here else b) ≡ read_on (if narrow then Stuck here else a) (λ x s. Found (make x) s)
 made_in_room true here a b make same = refl
 made_in_room false here a b make same = same
 
@@ -102,9 +102,9 @@ put-If at c t xs (Some (f, ys)) end semicolon = λ i rest. stmt-If_else at c t x
 
 -- the last symbol of a branch
 last_mark : {A D : Type 0} (b : Read ℕ) (x : Block) (o : A) (end : ℕ) (make : Block × (A × (ℕ × ℕ)) → D)
-    → after b (λ semicolon u. Found (make (x, (o, (end, semicolon)))) u)
-    ≡ after {A = Block × (A × (ℕ × ℕ))} (after {B = Block × (A × (ℕ × ℕ))}
-    (after {B = A × (ℕ × ℕ)} (after {B = ℕ × ℕ} b (λ y u. Found (end, y) u)) (λ y u. Found (o, y) u)) (λ y u. Found (x, y) u))
+    → read_on b (λ semicolon u. Found (make (x, (o, (end, semicolon)))) u)
+    ≡ read_on {A = Block × (A × (ℕ × ℕ))} (read_on {B = Block × (A × (ℕ × ℕ))}
+    (read_on {B = A × (ℕ × ℕ)} (read_on {B = ℕ × ℕ} b (λ y u. Found (end, y) u)) (λ y u. Found (o, y) u)) (λ y u. Found (x, y) u))
     (λ z u. Found (make z) u)
 last_mark (Found y u) x o end make = refl
 last_mark (Stuck u) x o end make = refl
@@ -112,9 +112,9 @@ last_mark Unread x o end make = refl
 
 -- the last two
 last_marks : {A D : Type 0} (a : Read ℕ) (x : Block) (o : A) (make : Block × (A × (ℕ × ℕ)) → D)
-    → after a (λ end s. after (mark (codes ";") s) (λ semicolon u. Found (make (x, (o, (end, semicolon)))) u))
-    ≡ after {A = Block × (A × (ℕ × ℕ))} (after {B = Block × (A × (ℕ × ℕ))}
-    (after {B = A × (ℕ × ℕ)} (after {B = ℕ × ℕ} a (λ end s. after (mark (codes ";") s) (λ y u. Found (end, y) u))) (λ y u. Found (o, y) u))
+    → read_on a (λ end s. read_on (mark (codes ";") s) (λ semicolon u. Found (make (x, (o, (end, semicolon)))) u))
+    ≡ read_on {A = Block × (A × (ℕ × ℕ))} (read_on {B = Block × (A × (ℕ × ℕ))}
+    (read_on {B = A × (ℕ × ℕ)} (read_on {B = ℕ × ℕ} a (λ end s. read_on (mark (codes ";") s) (λ y u. Found (end, y) u))) (λ y u. Found (o, y) u))
     (λ y u. Found (x, y) u)) (λ z u. Found (make z) u)
 last_marks (Found end s) x o make = last_mark (mark (codes ";") s) x o end make
 last_marks (Stuck s) x o make = refl
@@ -122,10 +122,10 @@ last_marks Unread x o make = refl
 
 -- behind the statements of `else`
 else_read : (n room at : ℕ) (c : Formula) (t : ℕ) (xs : Block) (f : ℕ) (b : Read Block)
-    → after b (λ ys s1. after (mark (codes "endif") s1) (λ end s2. after (mark (codes ";") s2) (λ semicolon s3. Found (IfElse at c t xs f ys end semicolon) s3)))
-    ≡ after {A = Block × (Option (ℕ × Block) × (ℕ × ℕ))} (after {B = Block × (Option (ℕ × Block) × (ℕ × ℕ))}
-    (after {A = Option (ℕ × Block)} {B = Option (ℕ × Block) × (ℕ × ℕ)} (after {B = Option (ℕ × Block)} b (λ ys s. Found (Some (f, ys)) s))
-    (λ o s. after (ending n s) (λ y u. Found (o, y) u))) (λ y u. Found (xs, y) u)) (λ z u. Found (branched at c t z) u)
+    → read_on b (λ ys s1. read_on (mark (codes "endif") s1) (λ end s2. read_on (mark (codes ";") s2) (λ semicolon s3. Found (IfElse at c t xs f ys end semicolon) s3)))
+    ≡ read_on {A = Block × (Option (ℕ × Block) × (ℕ × ℕ))} (read_on {B = Block × (Option (ℕ × Block) × (ℕ × ℕ))}
+    (read_on {A = Option (ℕ × Block)} {B = Option (ℕ × Block) × (ℕ × ℕ)} (read_on {B = Option (ℕ × Block)} b (λ ys s. Found (Some (f, ys)) s))
+    (λ o s. read_on (ending n s) (λ y u. Found (o, y) u))) (λ y u. Found (xs, y) u)) (λ z u. Found (branched at c t z) u)
 else_read n room at c t xs f (Found ys s) = last_marks (mark (codes "endif") s) xs (Some (f, ys)) (branched at c t)
 else_read n room at c t xs f (Stuck s) = refl
 else_read n room at c t xs f Unread = refl
@@ -133,24 +133,24 @@ else_read n room at c t xs f Unread = refl
 -- behind the statements of `then`
 then_read : (n room at : ℕ) (c : Formula) (t : ℕ) (xs : Block) (ss : List Symbol) (o : Option (ℕ × List Symbol))
     → branch_end (statements n) room at c t xs ss o
-    ≡ after {A = Block × (Option (ℕ × Block) × (ℕ × ℕ))} (after {B = Block × (Option (ℕ × Block) × (ℕ × ℕ))}
-    (after {B = Option (ℕ × Block) × (ℕ × ℕ)} (optional_from (block_of (room - 1)) n ss o)
-    (λ x s. after (ending n s) (λ y u. Found (x, y) u))) (λ y u. Found (xs, y) u)) (λ z u. Found (branched at c t z) u)
+    ≡ read_on {A = Block × (Option (ℕ × Block) × (ℕ × ℕ))} (read_on {B = Block × (Option (ℕ × Block) × (ℕ × ℕ))}
+    (read_on {B = Option (ℕ × Block) × (ℕ × ℕ)} (optional_from (block_of (room - 1)) n ss o)
+    (λ x s. read_on (ending n s) (λ y u. Found (x, y) u))) (λ y u. Found (xs, y) u)) (λ z u. Found (branched at c t z) u)
 then_read n room at c t xs ss None = last_marks (mark (codes "endif") ss) xs None (branched at c t)
 then_read n room at c t xs ss (Some (f, rest)) = else_read n room at c t xs f (statements n (room - 1) rest)
 
 -- what stands behind `then`, once the statements are read
 branches_read : (n room at : ℕ) (c : Formula) (t : ℕ) (b : Read Block)
-    → after b (λ xs s. branch_end (statements n) room at c t xs s (behind (codes "else") s))
-    ≡ after {A = Block × (Option (ℕ × Block) × (ℕ × ℕ))} (after {B = Block × (Option (ℕ × Block) × (ℕ × ℕ))} b
-    (λ xs s. after ((optional (codes "else") (block_of (room - 1)) >>> ending) n s) (λ y u. Found (xs, y) u))) (λ z u. Found (branched at c t z) u)
+    → read_on b (λ xs s. branch_end (statements n) room at c t xs s (behind (codes "else") s))
+    ≡ read_on {A = Block × (Option (ℕ × Block) × (ℕ × ℕ))} (read_on {B = Block × (Option (ℕ × Block) × (ℕ × ℕ))} b
+    (λ xs s. read_on ((optional (codes "else") (block_of (room - 1)) >>> ending) n s) (λ y u. Found (xs, y) u))) (λ z u. Found (branched at c t z) u)
 branches_read n room at c t (Found xs s) = then_read n room at c t xs s (behind (codes "else") s)
 branches_read n room at c t (Stuck s) = refl
 branches_read n room at c t Unread = refl
 
 -- what stands behind `then` is made of the branches
 pub branches_are : (room at : ℕ) (c : Formula) (t : ℕ) (n : ℕ) (ss : List Symbol)
-    → after (statements n (room - 1) ss) (λ xs s. branch_end (statements n) room at c t xs s (behind (codes "else") s)) ≡ made (branched at c t)
+    → read_on (statements n (room - 1) ss) (λ xs s. branch_end (statements n) room at c t xs s (behind (codes "else") s)) ≡ made (branched at c t)
     (branches (room - 1)) n ss
 branches_are room at c t n ss = branches_read n room at c t (statements n (room - 1) ss)
 
@@ -173,7 +173,7 @@ before_none (p ∷ puts) = ap p (before_none puts)
 
 -- the first statement and what stands behind it
 abbrev pub one_more : ℕ → List Symbol → Start → Reading Block
-one_more room here x n s = after (statement (climb n) (statements n) room here x s) (λ put t. after (statements n room t) (λ b u. Found (put b) u))
+one_more room here x n s = read_on (statement (climb n) (statements n) room here x s) (λ put t. read_on (statements n room t) (λ b u. Found (put b) u))
 
 -- with one call more they are read
 pub called : (room : ℕ) (ss : List Symbol) (x : Start) (rest : List Symbol) (a : Read Block) → start ss ≡ Some (x, rest)
@@ -204,7 +204,7 @@ pub goes_further : (room : ℕ) (whole : List Symbol) (puts : List (Block → Bl
     → Goes room whole (puts ++ put ∷ []) behind_it
 goes_further room whole puts ss x rest put behind_it g is h =
     let first : Reading (Block → Block) = λ n s. statement (climb n) (statements n) room ss x s in
-    let next : ℕ → (Block → Block) → List Symbol → Read Block = λ n p t. after (statements n room t) (λ b u. Found (p b) u) in
+    let next : ℕ → (Block → Block) → List Symbol → Read Block = λ n p t. read_on (statements n room t) (λ b u. Found (p b) u) in
     record {
       found = λ b r k.
           subst (λ (d : Block). Comes (block_of room) whole (Found d r)) (sym (before_more puts put b))
@@ -225,5 +225,5 @@ pub goes_fails : (stop : Stop) (room : ℕ) (whole : List Symbol) (puts : List (
     → Goes room whole puts ss → start ss ≡ Some (x, rest)
     → Fails stop (λ n s. statement (climb n) (statements n) room ss x s) rest → Fails stop (block_of room) whole
 goes_fails (stops.Stuck left) room whole puts ss x rest g is (r, len, h) =
-    (r, len, g.stuck r (called room ss x rest (Stuck r) is (ends (λ n p t. after (statements n room t) (λ b u. Found (p b) u)) h)))
+    (r, len, g.stuck r (called room ss x rest (Stuck r) is (ends (λ n p t. read_on (statements n room t) (λ b u. Found (p b) u)) h)))
 goes_fails stops.Memory room whole puts ss x rest g is t = tt

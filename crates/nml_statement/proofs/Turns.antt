@@ -12,7 +12,7 @@ use Rattle.nml_tree.specs.Depth.{depth}
 use Rattle.readings.specs.declared.sign.Sign.{Sign}
 use Rattle.readings.specs.declared.stop.Stop.{Stop}
 use Rattle.nml_statement.specs.declared.beginning.Form.{Form}
-use Rattle.readings.specs.Reading.{Read, Found, Stuck, after, behind, looked_up, mark}
+use Rattle.readings.specs.Reading.{Read, Found, Stuck, read_on, behind, looked_up, mark}
 use Rattle.nml_grammar.specs.Reading.{Reader, Beginning, climb, more, operand, begun, beginnings, index, operator, turn}
 use Rattle.readings.specs.Readings.{Reading}
 use Rattle.readings.specs.Seen.{seen, Comes, Fails, Says}
@@ -104,7 +104,7 @@ no_index room name ss x is e = at_once (λ n. ap (index (climb n) room name ss) 
 
 -- the index behind a name
 abbrev pub indexing : ℕ → Name → ℕ → Reading Formula
-indexing room name p n s = after (climb n 0 (room - 1) s) (λ i r. after (mark (codes "]") r) (λ q t. Found (Indexed name p i q) t))
+indexing room name p n s = read_on (climb n 0 (room - 1) s) (λ i r. read_on (mark (codes "]") r) (λ q t. Found (Indexed name p i q) t))
 
 -- where there is room
 index_is : (n room : ℕ) (name : Name) (ss : List Symbol) (p : ℕ) (rest : List Symbol) → Some (p, rest) ≡ behind (codes "[") ss → 1 < room
@@ -150,7 +150,7 @@ no_room k room left ss op at rest is le =
 
 -- the right part of an operator, and what is behind both
 abbrev right_part : ℕ → ℕ → Formula → Bin → ℕ → ℕ → Reading Formula
-right_part k room left op at lev n s = after (climb n lev (room - 1) s) (λ right t. more n k room (Binary op left at right) t)
+right_part k room left op at lev n s = read_on (climb n lev (room - 1) s) (λ right t. more n k room (Binary op left at right) t)
 
 -- what the operator in front, its right part and what is behind them come to
 pub with_turn : (k room : ℕ) (left : Formula) (ss : List Symbol) (op : Bin) (at lev : ℕ) (rest : List Symbol) (a : Read Formula)

@@ -10,6 +10,8 @@ use nk_base::Memory;
 use sqlite_items::Items;
 use std::alloc::Global;
 
+/// The lowest number of a rule that reaches itself, `None` exactly where no rule does. Each number in the graph is below its length.
+/// `Memory` where there is none for an order of the rules or a search; no other answer is free. By this project's own rule.
 pub fn first_loop(alloc: Global, graph: &[Items<usize>]) -> Result<Option<usize>, Memory>
     requires { InRange graph.now }
     ensures { IfOk result (λ found. LeastOf (λ a. Reaches graph.now a a) found) }

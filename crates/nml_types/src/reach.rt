@@ -7,6 +7,8 @@ use nk_base::Memory;
 use sqlite_items::Items;
 use std::alloc::Global;
 
+/// Whether the rule of this number reaches itself by one edge or more. Each number in the graph is below its length, and so is `rule`.
+/// `Memory` where there is none for a mark a rule and the rules found; no other answer is free. By this project's own rule.
 pub fn reaches_itself(alloc: Global, graph: &[Items<usize>], rule: usize) -> Result<bool, Memory>
     requires range { InRange graph.now }
     requires rule { rule < length graph.now }

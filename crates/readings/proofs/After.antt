@@ -1,13 +1,13 @@
 -- What goes on behind what was found, from what it comes to.
 use Rattle.std.proofs.Common.{◌≡◌, ℕ, ◌<◌, ◌≤◌, List, refl, ap, sym, ◌∙◌, subst, false, IsTrue, ⊎_elim, ◌⊎◌, inl, inr}
 use Rattle.readings.specs.Symbol.{Symbol}
-use Rattle.readings.specs.Reading.{Read, Found, Stuck, after, with_room, Unread}
+use Rattle.readings.specs.Reading.{Read, Found, Stuck, read_on, with_room, Unread}
 use Rattle.readings.proofs.Symbols.{above, within}
 use Rattle.std.proofs.lemmas.Bool.{cases_lt}
 
 -- the reading goes on
-pub on : {A B : Type 0} (a : Read A) (x : A) (s : List Symbol) (next : A → List Symbol → Read B) (z : Read B) → a ≡ Found x s → next x s ≡ z → after a next ≡ z
-on a x s next z e f = ap (λ b. after b next) e ∙ f
+pub on : {A B : Type 0} (a : Read A) (x : A) (s : List Symbol) (next : A → List Symbol → Read B) (z : Read B) → a ≡ Found x s → next x s ≡ z → read_on a next ≡ z
+on a x s next z e f = ap (λ b. read_on b next) e ∙ f
 
 -- there is room
 pub room_is : {A : Type 0} (room : ℕ) (here : List Symbol) (next : Read A) → 1 < room → with_room room here next ≡ next
@@ -28,7 +28,7 @@ Holds P Unread = ⊥
 pub found_is : {A : Type 0} (P : A → List Symbol → Type 0) (x y : A) (r s : List Symbol) → Found x r ≡ Found y s → P x r → P y s
 found_is P x y r s e h = subst (Holds P) e h
 
-pub after_found : {A B : Type 0} (a : Read A) (next : A → List Symbol → Read B) (y : B) (rest : List Symbol) → after a next ≡ Found y rest → (x : A) × (s : List Symbol) × (a ≡ Found x s) × (next x s ≡ Found y rest)
+pub after_found : {A B : Type 0} (a : Read A) (next : A → List Symbol → Read B) (y : B) (rest : List Symbol) → read_on a next ≡ Found y rest → (x : A) × (s : List Symbol) × (a ≡ Found x s) × (next x s ≡ Found y rest)
 after_found (Found x s) next y rest e = (x, s, refl, e)
 after_found (Stuck s) next y rest e = absurd (cc)
 after_found Unread next y rest e = absurd (cc)
@@ -46,7 +46,7 @@ room_found room here a x rest e =
 pub stuck_is : {A : Type 0} (a b : List Symbol) → ◌≡◌ {A = Read A} (Stuck a) (Stuck b) → a ≡ b
 stuck_is a b e = cc
 
-pub after_stuck : {A B : Type 0} (a : Read A) (next : A → List Symbol → Read B) (rest : List Symbol) → after a next ≡ Stuck rest → (a ≡ Stuck rest) ⊎ ((x : A) × (s : List Symbol) × (a ≡ Found x s) × (next x s ≡ Stuck rest))
+pub after_stuck : {A B : Type 0} (a : Read A) (next : A → List Symbol → Read B) (rest : List Symbol) → read_on a next ≡ Stuck rest → (a ≡ Stuck rest) ⊎ ((x : A) × (s : List Symbol) × (a ≡ Found x s) × (next x s ≡ Stuck rest))
 after_stuck (Found x s) next rest e = inr (x, s, refl, e)
 after_stuck (Stuck s) next rest e = inl (ap (λ t. Stuck t) (stuck_is s rest e))
 after_stuck Unread next rest e = absurd (cc)

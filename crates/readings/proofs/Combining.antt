@@ -1,7 +1,7 @@
 -- Readings put together keep the law: one behind another, made into something else, and what the first symbol tells.
 use Rattle.std.proofs.Common.{◌≡◌, ℕ, suc, ◌+◌, List, [], ◌∷◌, ◌++◌, length, Option, Some, None, refl, ap, sym, ◌∙◌, subst, arith, append_assoc, ⊎_elim}
 use Rattle.readings.specs.Symbol.{Symbol, fixed, beyond}
-use Rattle.readings.specs.Reading.{Read, Found, Stuck, after, mark}
+use Rattle.readings.specs.Reading.{Read, Found, Stuck, read_on, mark}
 use Rattle.readings.specs.Readings.{Reading, ◌>>>◌, made, given, sign}
 use Rattle.readings.proofs.Symbols.{mark_is, mark_front, mark_stuck}
 use Rattle.readings.proofs.After.{found_not_stuck, on, found_is, after_found, stuck_is_not_found, stuck_is, after_stuck}
@@ -127,11 +127,11 @@ then_law {A = A} {B = B} spelled good ends first spelled2 good2 ends2 second l m
             })
             (λ i. found_not_stuck (h.0, i.0) i.1 rest i.3)
             (after_stuck (second n h.1) (λ y s. Found (h.0, y) s) rest h.3))
-            (after_stuck (first n ss) (λ x s. after (second n s) (λ y t. Found (x, y) t)) rest e);
+            (after_stuck (first n ss) (λ x s. read_on (second n s) (λ y t. Found (x, y) t)) rest e);
         settled = λ ss.
-            settles_behind (length ss) (λ n. first n ss) (λ n x s. after (second n s) (λ y t. Found (x, y) t)) (l.law.settled ss)
+            settles_behind (length ss) (λ n. first n ss) (λ n x s. read_on (second n s) (λ y t. Found (x, y) t)) (l.law.settled ss)
             (λ x s e.
-            settles_later (length s) (length ss) (λ n. after (second n s) (λ y t. Found (x, y) t))
+            settles_later (length s) (length ss) (λ n. read_on (second n s) (λ y t. Found (x, y) t))
             (no_longer ss (spelled x) s (l.law.sound (suc (length ss)) ss x s e).whole)
             (settles_behind (length s) (λ n. second n s) (λ n y t. Found (x, y) t) (m.law.settled s)
             (λ y t i. settles_at_once (length s) (λ n. Found (x, y) t) (Found (x, y) t) tt (λ n. refl))));

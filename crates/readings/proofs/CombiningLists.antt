@@ -2,7 +2,7 @@
 use Rattle.std.proofs.Common.{◌≡◌, ℕ, zero, suc, ◌+◌, ◌<◌, ◌≤◌, List, [], ◌∷◌, ◌++◌, length, Option, Some, None, refl, ap, sym, ◌∙◌, subst, arith, append_assoc, append-nil, ⊎_elim}
 use Rattle.std.specs.Prelude.{flat_map}
 use Rattle.readings.specs.Symbol.{Symbol}
-use Rattle.readings.specs.Reading.{Found, Stuck, after, behind}
+use Rattle.readings.specs.Reading.{Found, Stuck, read_on, behind}
 use Rattle.readings.specs.Readings.{Reading, further, further_from}
 use Rattle.readings.proofs.Symbols.{behind_is, behind_front}
 use Rattle.readings.proofs.After.{found_not_stuck, on, found_is, after_found, after_stuck}
@@ -87,7 +87,7 @@ module _ {A : Type 0} (text : List ℕ) (spelled : A → List Symbol) (ends : A 
     list_local zero ss = unread_locally (further text reads zero) ss
     list_local (suc n) ss =
         by_mark_local text (λ m s. further text reads (suc n) s) (λ m s. Found [] s)
-        (λ at m s. after (reads n s) (λ x t. after (further text reads n t) (λ xs u. Found ((at, x) ∷ xs) u)))
+        (λ at m s. read_on (reads n s) (λ x t. read_on (further text reads n t) (λ xs u. Found ((at, x) ∷ xs) u)))
         (λ m s i. ap (further_from reads (λ t. further text reads n t) n s) i) (λ m s at rest i. ap (further_from reads (λ t. further text reads n t) n s) i)
         (λ m. found_local [])
         (λ at m. after_local (reads n) _ (l.law.local n) (λ x. after_local (further text reads n) _ (list_local n) (λ xs. found_local ((at, x) ∷ xs)))) n ss
@@ -130,7 +130,7 @@ module _ {A : Type 0} (text : List ℕ) (spelled : A → List Symbol) (ends : A 
             })
             (λ g. found_not_stuck ((at, h.0) ∷ g.0) g.1 rest g.3)
             (after_stuck (further text reads n h.1) (λ xs u. Found ((at, h.0) ∷ xs) u) rest h.3))
-            (after_stuck (reads n s) (λ x t. after (further text reads n t) (λ xs u. Found ((at, x) ∷ xs) u)) rest f)
+            (after_stuck (reads n s) (λ x t. read_on (further text reads n t) (λ xs u. Found ((at, x) ∷ xs) u)) rest f)
 
     -- where the mark is not next the reading settles at once
     settled_none : (ss : List Symbol) → behind text ss ≡ None → Settles (length ss) (λ n. further text reads n ss)
@@ -146,12 +146,12 @@ module _ {A : Type 0} (text : List ℕ) (spelled : A → List Symbol) (ends : A 
     settled_some ss s at i others =
         settles_later (suc (length s)) (length ss) (λ n. further text reads n ss) (omega (arith, ap length (behind_is text ss at s i)))
         (settles_one_more (length s) (λ n. further text reads n ss)
-        (settles_alike (length s) (λ n. after (reads n s) (λ x t. after (further text reads n t) (λ xs u. Found ((at, x) ∷ xs) u)))
+        (settles_alike (length s) (λ n. read_on (reads n s) (λ x t. read_on (further text reads n t) (λ xs u. Found ((at, x) ∷ xs) u)))
         (λ n. further text reads (suc n) ss) (λ n. ap (further_from reads (λ t. further text reads n t) n ss) i)
-        (settles_behind (length s) (λ n. reads n s) (λ n x t. after (further text reads n t) (λ xs u. Found ((at, x) ∷ xs) u)) (l.law.settled s)
+        (settles_behind (length s) (λ n. reads n s) (λ n x t. read_on (further text reads n t) (λ xs u. Found ((at, x) ∷ xs) u)) (l.law.settled s)
         (λ x t e.
         let less = no_longer s (spelled x) t (l.law.sound (suc (length s)) s x t e).whole in
-        settles_later (length t) (length s) (λ n. after (further text reads n t) (λ xs u. Found ((at, x) ∷ xs) u)) less
+        settles_later (length t) (length s) (λ n. read_on (further text reads n t) (λ xs u. Found ((at, x) ∷ xs) u)) less
         (settles_behind (length t) (λ n. further text reads n t) (λ n xs u. Found ((at, x) ∷ xs) u) (others t less)
         (λ xs u f. settles_at_once (length t) (λ n. Found ((at, x) ∷ xs) u) (Found ((at, x) ∷ xs) u) tt (λ n. refl)))))))
 

@@ -2,7 +2,7 @@
 use Rattle.std.proofs.Common.{ℕ, ◌<◌, ◌==◌, Bool, true, false, List, [], ◌∷◌, ◌++◌, append_assoc, append-nil, length, map, ◌≡◌, refl, sym, ◌∙◌, ap, subst, max, arith}
 use Rattle.std.proofs.lemmas.Bool.Decides.{nat_tests}
 use Rattle.readings.specs.Symbol.{Symbol}
-use Rattle.readings.specs.Reading.{Read, Found, Stuck, Unread, after}
+use Rattle.readings.specs.Reading.{Read, Found, Stuck, Unread, read_on}
 use Rattle.readings.specs.Readings.{Reading, to_end}
 use Rattle.readings.specs.declared.stop.Stop.{Stop}
 use Rattle.readings.specs.declared.sign.Sign.{Sign}
@@ -12,7 +12,7 @@ use Rattle.readings.specs.declared.stop.Stop.TheVariants as stops
 
 -- what the reading comes to with these things put before those that it finds
 abbrev pub with_things : {A : Type 0} → List A → Read (List A) → Read (List A)
-with_things found a = after a (λ xs s. Found (found ++ xs) s)
+with_things found a = read_on a (λ xs s. Found (found ++ xs) s)
 
 -- whatever the rest comes to, the whole comes to, with the things found so far put before
 abbrev pub Continues : {A : Type 0} → Reading A → List Symbol → List A → List Symbol → Type 0
@@ -31,8 +31,8 @@ in_front reads c cs x s a h k =
     one_more (to_end reads) (c ∷ cs) (with_things (x ∷ []) a)
     (record {
       calls = max h.calls k.calls;
-      is = λ n le. ap (λ b. after b (λ y u. after (to_end reads n u) (λ xs t. Found (y ∷ xs) t))) (h.is n (omega (arith, le)))
-          ∙ ap (λ b. after b (λ xs t. Found (x ∷ xs) t)) (k.is n (omega (arith, le)));
+      is = λ n le. ap (λ b. read_on b (λ y u. read_on (to_end reads n u) (λ xs t. Found (y ∷ xs) t))) (h.is n (omega (arith, le)))
+          ∙ ap (λ b. read_on b (λ xs t. Found (x ∷ xs) t)) (k.is n (omega (arith, le)));
     })
 
 joined : {A : Type 0} (found : List A) (y : A) (a : Read (List A)) → with_things found (with_things (y ∷ []) a) ≡ with_things (found ++ y ∷ []) a
@@ -62,7 +62,7 @@ continues_fails reads (stops.Stuck left) ss found (c ∷ cs) some g (rest, n_is,
   rest,
   n_is,
   g (Stuck rest) (one_more (to_end reads) (c ∷ cs) (Stuck rest)
-      (record { calls = h.calls; is = λ n le. ap (λ b. after b (λ y u. after (to_end reads n u) (λ xs t. Found (y ∷ xs) t))) (h.is n le) })),
+      (record { calls = h.calls; is = λ n le. ap (λ b. read_on b (λ y u. read_on (to_end reads n u) (λ xs t. Found (y ∷ xs) t))) (h.is n le) })),
 )
 continues_fails reads stops.Memory ss found here some g t = tt
 

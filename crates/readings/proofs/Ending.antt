@@ -3,7 +3,7 @@ use Rattle.std.proofs.Common.{◌≡◌, ℕ, ◌<◌, ◌≤◌, List, [], ◌�
 use Rattle.std.specs.Prelude.{if◌then◌else◌}
 use Rattle.nk_base.specs.Text.{text_eq}
 use Rattle.readings.specs.Symbol.{Symbol}
-use Rattle.readings.specs.Reading.{Read, Found, Stuck, Unread, after, found_or_stuck, mark}
+use Rattle.readings.specs.Reading.{Read, Found, Stuck, Unread, read_on, found_or_stuck, mark}
 use Rattle.readings.specs.Lawful.{IsTold}
 use Rattle.readings.proofs.Keeps.{Keeps, Same, Short}
 
@@ -31,7 +31,7 @@ told_of m (Found x rest) h = tt
 told_of m (Stuck rest) h = tt
 told_of m Unread h = h
 
-pub after_ends : {A B : Type 0} (m : ℕ) (a : Read A) (next : A → List Symbol → Read B) → Ends m a → ((x : A) (rest : List Symbol) → length rest < m → Ends m (next x rest)) → Ends m (after a next)
+pub after_ends : {A B : Type 0} (m : ℕ) (a : Read A) (next : A → List Symbol → Read B) → Ends m a → ((x : A) (rest : List Symbol) → length rest < m → Ends m (next x rest)) → Ends m (read_on a next)
 after_ends m (Found x rest) next h k = k x rest h
 after_ends m (Stuck rest) next h k = tt
 after_ends m Unread next h k = h

@@ -1,7 +1,7 @@
 -- Things each of which stands behind a mark, read one after the other.
 use Rattle.std.proofs.Common.{ℕ, List, [], ◌∷◌, ◌++◌, append_assoc, append-nil, Some, None, ◌≡◌, refl, sym, ◌∙◌, ap, subst, max, arith}
 use Rattle.readings.specs.Symbol.{Symbol}
-use Rattle.readings.specs.Reading.{Read, Found, Stuck, Unread, after, behind}
+use Rattle.readings.specs.Reading.{Read, Found, Stuck, Unread, read_on, behind}
 use Rattle.readings.specs.Readings.{Reading, further, further_from}
 use Rattle.readings.specs.declared.stop.Stop.{Stop}
 use Rattle.readings.specs.Seen.{Comes, Fails}
@@ -10,7 +10,7 @@ use Rattle.readings.specs.declared.stop.Stop.TheVariants as stops
 
 -- what the reading comes to with these things put before those that it finds
 abbrev pub with_front : {A : Type 0} → List (ℕ × A) → Read (List (ℕ × A)) → Read (List (ℕ × A))
-with_front found a = after a (λ xs s. Found (found ++ xs) s)
+with_front found a = read_on a (λ xs s. Found (found ++ xs) s)
 
 -- whatever the rest comes to, the whole comes to, with the things found so far put before
 abbrev pub Goes : {A : Type 0} → List ℕ → Reading A → List Symbol → List (ℕ × A) → List Symbol → Type 0
@@ -30,8 +30,8 @@ front text reads ss at rest x s a e h k =
     (record {
       calls = max h.calls k.calls;
       is = λ n le. ap (λ o. further_from reads (λ t. further text reads n t) n ss o) e
-          ∙ ap (λ b. after b (λ y u. after (further text reads n u) (λ xs t. Found ((at, y) ∷ xs) t))) (h.is n (omega (arith, le)))
-          ∙ ap (λ b. after b (λ xs t. Found ((at, x) ∷ xs) t)) (k.is n (omega (arith, le)));
+          ∙ ap (λ b. read_on b (λ y u. read_on (further text reads n u) (λ xs t. Found ((at, y) ∷ xs) t))) (h.is n (omega (arith, le)))
+          ∙ ap (λ b. read_on b (λ xs t. Found ((at, x) ∷ xs) t)) (k.is n (omega (arith, le)));
     })
 
 joined : {A : Type 0} (found : List (ℕ × A)) (y : ℕ × A) (a : Read (List (ℕ × A))) → with_front found (with_front (y ∷ []) a) ≡ with_front (found ++ y ∷ []) a
@@ -60,7 +60,7 @@ goes_fails (stops.Stuck left) text reads ss found here at rest g e (r, is, h) = 
   g (Stuck r) (one_more (further text reads) here (Stuck r) (record {
     calls = h.calls;
     is = λ n le. ap (λ o. further_from reads (λ t. further text reads n t) n here o) e
-        ∙ ap (λ b. after b (λ y u. after (further text reads n u) (λ xs t. Found ((at, y) ∷ xs) t))) (h.is n le);
+        ∙ ap (λ b. read_on b (λ y u. read_on (further text reads n u) (λ xs t. Found ((at, y) ∷ xs) t))) (h.is n le);
   })),
 )
 goes_fails stops.Memory text reads ss found here at rest g e t = tt

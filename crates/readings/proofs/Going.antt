@@ -1,7 +1,7 @@
 -- Readings by what they take: what was found, and what the symbols before a stop go on to be.
 use Rattle.std.proofs.Common.{◌≡◌, ℕ, List, [], ◌∷◌, ◌++◌, refl, ap, sym, ◌∙◌, append_assoc, ⊎_elim}
 use Rattle.readings.specs.Symbol.{Symbol}
-use Rattle.readings.specs.Reading.{Read, Found, Stuck, after, mark}
+use Rattle.readings.specs.Reading.{Read, Found, Stuck, read_on, mark}
 use Rattle.readings.proofs.Symbols.{mark_is, mark_stuck}
 use Rattle.readings.proofs.After.{after_found, after_stuck}
 
@@ -33,7 +33,7 @@ pub record Then {A B : Type 0} (L : A → List Symbol → Type 0) (M : A → B �
 
 -- one list before another reading
 pub after_at : {A B : Type 0} (ss : List Symbol) (a : Read A) (next : A → List Symbol → Read B) (L : A → List Symbol → Type 0) (M : A → B → List Symbol → Type 0) → GoesAt ss a L → ((x : A) → Goes (next x) (M x))
-    → GoesAt ss (after a next) (Then L M)
+    → GoesAt ss (read_on a next) (Then L M)
 after_at ss a next L M g h =
     record {
       found = λ y rest e.
@@ -61,9 +61,9 @@ after_at ss a next L M g h =
 
 -- one reading behind the other
 pub after_goes : {A B : Type 0} (reads : List Symbol → Read A) (next : A → List Symbol → Read B) (L : A → List Symbol → Type 0) (M : A → B → List Symbol → Type 0) → Goes reads L → ((x : A) → Goes (next x) (M x))
-    → Goes (λ t. after (reads t) next) (Then L M)
+    → Goes (λ t. read_on (reads t) next) (Then L M)
 after_goes reads next L M l h =
-    let at : (ss : List Symbol) → GoesAt ss (after (reads ss) next) (Then L M) = λ ss. after_at ss (reads ss) next L M (at_of reads L l ss) h in
+    let at : (ss : List Symbol) → GoesAt ss (read_on (reads ss) next) (Then L M) = λ ss. after_at ss (reads ss) next L M (at_of reads L l ss) h in
     record {
       found = λ ss y rest e. (at ss).found y rest e;
       stuck = λ ss rest e. (at ss).stuck rest e;
@@ -115,7 +115,7 @@ abbrev pub Closes : {A : Type 0} → List ℕ → (ℕ → A) → A → List Sym
 Closes text make = Then (IsMark text) (λ q. IsDone (make q))
 
 -- it is read or lacks
-pub closes : {A : Type 0} (text : List ℕ) (make : ℕ → A) → Goes (λ t. after (mark text t) (λ q s. Found (make q) s)) (Closes text make)
+pub closes : {A : Type 0} (text : List ℕ) (make : ℕ → A) → Goes (λ t. read_on (mark text t) (λ q s. Found (make q) s)) (Closes text make)
 closes text make = after_goes (mark text) (λ q s. Found (make q) s) (IsMark text) (λ q. IsDone (make q)) (mark_goes text) (λ q. done_goes (make q))
 
 -- the mark alone is left

@@ -3,7 +3,7 @@ use Rattle.std.proofs.Common.{◌≡◌, ℕ, List, [], ◌∷◌, ◌++◌, Opt
 use Rattle.std.specs.Prelude.{if◌then◌else◌}
 use Rattle.nk_base.specs.Text.{text_eq}
 use Rattle.readings.specs.Symbol.{Symbol}
-use Rattle.readings.specs.Reading.{Read, Found, Stuck, Unread, after, found_or_stuck, mark}
+use Rattle.readings.specs.Reading.{Read, Found, Stuck, Unread, read_on, found_or_stuck, mark}
 use Rattle.readings.specs.Lawful.{IsLocal, Locally, rest_of}
 
 pub none_left : {P : Type 0} (c : Symbol) (r : List Symbol) → [] ≡ c ∷ r → P
@@ -51,21 +51,21 @@ pub before_more : {A : Type 0} (reads : List Symbol → Read A) (ss : List Symbo
 before_more reads ss x rest l [] c r s e = l.same c r s e
 before_more reads ss x rest l (d ∷ front) c r s e = l.same d (front ++ (c ∷ r)) (front ++ (c ∷ s)) e
 
-pub after_locally : {A B : Type 0} (reads : List Symbol → Read A) (next : A → List Symbol → Read B) (ss : List Symbol) (a : Read A) → ((x : A) → IsLocal (next x)) → Locally reads ss a → Locally (λ t. after (reads t) next) ss (after a next)
-after_locally reads next ss Unread h l = unread_locally (λ t. after (reads t) next) ss
-after_locally reads next ss (Stuck rest) h l = record { front = l.front; whole = l.whole; same = λ c r s e. ap (λ b. after b next) (l.same c r s e) }
+pub after_locally : {A B : Type 0} (reads : List Symbol → Read A) (next : A → List Symbol → Read B) (ss : List Symbol) (a : Read A) → ((x : A) → IsLocal (next x)) → Locally reads ss a → Locally (λ t. read_on (reads t) next) ss (read_on a next)
+after_locally reads next ss Unread h l = unread_locally (λ t. read_on (reads t) next) ss
+after_locally reads next ss (Stuck rest) h l = record { front = l.front; whole = l.whole; same = λ c r s e. ap (λ b. read_on b next) (l.same c r s e) }
 after_locally reads next ss (Found x rest) h l =
     let m = h x rest in
     record {
       front = l.front ++ m.front;
       whole = l.whole ∙ ap (λ u. l.front ++ u) m.whole ∙ sym (append_assoc l.front m.front (rest_of (next x rest)));
       same = λ c r s e.
-          ap (λ u. after (reads u) next) (append_assoc l.front m.front (c ∷ s))
-          ∙ ap (λ b. after b next) (before_more reads ss x rest l m.front c r s (m.whole ∙ ap (λ u. m.front ++ u) e))
+          ap (λ u. read_on (reads u) next) (append_assoc l.front m.front (c ∷ s))
+          ∙ ap (λ b. read_on b next) (before_more reads ss x rest l m.front c r s (m.whole ∙ ap (λ u. m.front ++ u) e))
           ∙ m.same c r s e;
     }
 
-pub after_local : {A B : Type 0} (reads : List Symbol → Read A) (next : A → List Symbol → Read B) → IsLocal reads → ((x : A) → IsLocal (next x)) → IsLocal (λ t. after (reads t) next)
+pub after_local : {A B : Type 0} (reads : List Symbol → Read A) (next : A → List Symbol → Read B) → IsLocal reads → ((x : A) → IsLocal (next x)) → IsLocal (λ t. read_on (reads t) next)
 after_local reads next l h ss = after_locally reads next ss (reads ss) h (l ss)
 
 -- ---- single symbols

@@ -3,7 +3,7 @@ use Rattle.std.proofs.Common.{ℕ, zero, suc, List, ◌∷◌, Option, Some, Non
 use Rattle.std.specs.Option.{option_map}
 use Rattle.std.specs.Result.{IsErrAnd}
 use Rattle.readings.specs.Symbol.{Symbol}
-use Rattle.readings.specs.Reading.{Read, Found, Stuck, after, looked_up, behind, Unread, with_room}
+use Rattle.readings.specs.Reading.{Read, Found, Stuck, read_on, looked_up, behind, Unread, with_room}
 use Rattle.readings.specs.Readings.{Reading, ◌>>>◌, made, optional, optional_from, worded, worded_from}
 use Rattle.readings.specs.declared.stop.Stop.{Stop}
 use Rattle.readings.specs.Seen.{Comes, Fails, Says}
@@ -18,13 +18,13 @@ at_once h = record { calls = 0; is = λ n le. h n }
 
 -- what goes on behind what was found
 pub goes_on : {A B : Type 0} {reads : Reading A} {ss : List Symbol} {x : A} {rest : List Symbol} {b : Read B} (next : ℕ → A → List Symbol → Read B) → Comes reads ss (Found x rest) → Comes (λ n s. next n x s) rest b
-    → Comes (λ n s. after (reads n s) (next n)) ss b
+    → Comes (λ n s. read_on (reads n s) (next n)) ss b
 goes_on next r s =
-    record { calls = max r.calls s.calls; is = λ n le. ap (λ a. after a (next n)) (r.is n (omega (arith, le))) ∙ s.is n (omega (arith, le)) }
+    record { calls = max r.calls s.calls; is = λ n le. ap (λ a. read_on a (next n)) (r.is n (omega (arith, le))) ∙ s.is n (omega (arith, le)) }
 
 -- where a reading is stuck nothing goes on
-pub ends : {A B : Type 0} {reads : Reading A} {ss : List Symbol} {rest : List Symbol} (next : ℕ → A → List Symbol → Read B) → Comes reads ss (Stuck rest) → Comes (λ n s. after (reads n s) (next n)) ss (Stuck rest)
-ends next r = record { calls = r.calls; is = λ n le. ap (λ a. after a (next n)) (r.is n le) }
+pub ends : {A B : Type 0} {reads : Reading A} {ss : List Symbol} {rest : List Symbol} (next : ℕ → A → List Symbol → Read B) → Comes reads ss (Stuck rest) → Comes (λ n s. read_on (reads n s) (next n)) ss (Stuck rest)
+ends next r = record { calls = r.calls; is = λ n le. ap (λ a. read_on a (next n)) (r.is n le) }
 
 -- by another reading, of other symbols
 pub alike : {A : Type 0} (reads others : Reading A) (ss ts : List Symbol) (a : Read A) → ((n : ℕ) → others n ts ≡ reads n ss) → Comes reads ss a → Comes others ts a
@@ -40,17 +40,17 @@ says_alike found (Err stops.Memory) reads others ss ts h t = tt
 -- both are found
 pub both : {A B : Type 0} (first : Reading A) (second : Reading B) (ss : List Symbol) (x : A) (r : List Symbol) (y : B) (s : List Symbol) → Comes first ss (Found x r) → Comes second r (Found y s) → Comes (first >>> second) ss (Found (x, y) s)
 both first second ss x r y s h k =
-    goes_on (λ n z t. after (second n t) (λ w u. Found (z, w) u)) h (goes_on (λ n w u. Found (x, w) u) k (at_once (λ n. refl)))
+    goes_on (λ n z t. read_on (second n t) (λ w u. Found (z, w) u)) h (goes_on (λ n w u. Found (x, w) u) k (at_once (λ n. refl)))
 
 -- the first stops
 pub fails : {A B : Type 0} (stop : Stop) (first : Reading A) (second : Reading B) (ss : List Symbol) → Fails stop first ss → Fails stop (first >>> second) ss
-fails (stops.Stuck left) first second ss (rest, is, h) = (rest, is, ends (λ n z t. after (second n t) (λ w u. Found (z, w) u)) h)
+fails (stops.Stuck left) first second ss (rest, is, h) = (rest, is, ends (λ n z t. read_on (second n t) (λ w u. Found (z, w) u)) h)
 fails stops.Memory first second ss t = tt
 
 -- the second stops
 pub fails_behind : {A B : Type 0} (stop : Stop) (first : Reading A) (second : Reading B) (ss : List Symbol) (x : A) (r : List Symbol) → Comes first ss (Found x r) → Fails stop second r → Fails stop (first >>> second) ss
 fails_behind (stops.Stuck left) first second ss x r h (rest, is, k) =
-    (rest, is, goes_on (λ n z t. after (second n t) (λ w u. Found (z, w) u)) h (ends (λ n w u. Found (x, w) u) k))
+    (rest, is, goes_on (λ n z t. read_on (second n t) (λ w u. Found (z, w) u)) h (ends (λ n w u. Found (x, w) u) k))
 fails_behind stops.Memory first second ss x r h t = tt
 
 -- ---- made into something else
@@ -81,11 +81,11 @@ absent text reads ss e = at_once (λ n. ap (optional_from reads n ss) e)
 
 pub present : {A : Type 0} (text : List ℕ) (reads : Reading A) (ss : List Symbol) (at : ℕ) (rest : List Symbol) (x : A) (s : List Symbol) → behind text ss ≡ Some (at, rest) → Comes reads rest (Found x s) → Comes (optional text reads) ss (Found (Some (at, x)) s)
 present text reads ss at rest x s e h =
-    record { calls = h.calls; is = λ n le. ap (optional_from reads n ss) e ∙ ap (λ a. after a (λ y t. Found (Some (at, y)) t)) (h.is n le) }
+    record { calls = h.calls; is = λ n le. ap (optional_from reads n ss) e ∙ ap (λ a. read_on a (λ y t. Found (Some (at, y)) t)) (h.is n le) }
 
 pub fails_present : {A : Type 0} (stop : Stop) (text : List ℕ) (reads : Reading A) (ss : List Symbol) (at : ℕ) (rest : List Symbol) → behind text ss ≡ Some (at, rest) → Fails stop reads rest → Fails stop (optional text reads) ss
 fails_present (stops.Stuck left) text reads ss at rest e (r, is, h) =
-    (r, is, record { calls = h.calls; is = λ n le. ap (optional_from reads n ss) e ∙ ap (λ a. after a (λ y t. Found (Some (at, y)) t)) (h.is n le) })
+    (r, is, record { calls = h.calls; is = λ n le. ap (optional_from reads n ss) e ∙ ap (λ a. read_on a (λ y t. Found (Some (at, y)) t)) (h.is n le) })
 fails_present stops.Memory text reads ss at rest e t = tt
 
 -- nothing was looked up where nothing is made of it
@@ -105,35 +105,35 @@ fails_alike stops.Memory reads other ss ts same t = tt
 
 -- where the first stops
 pub fails_now : {A B : Type 0} (stop : Stop) (reads : Reading A) (next : ℕ → A → List Symbol → Read B) (ss : List Symbol) → Fails stop reads ss
-    → Fails stop (λ n s. after (reads n s) (next n)) ss
+    → Fails stop (λ n s. read_on (reads n s) (next n)) ss
 fails_now (stops.Stuck left) reads next ss (rest, is, h) = (rest, is, ends next h)
 fails_now stops.Memory reads next ss t = tt
 
 -- where what goes on behind the first stops
 pub fails_later : {A B : Type 0} (stop : Stop) (reads : Reading A) (next : ℕ → A → List Symbol → Read B) (ss : List Symbol) (x : A)
     (r : List Symbol) → Comes reads ss (Found x r) → Fails stop (λ n s. next n x s) r
-    → Fails stop (λ n s. after (reads n s) (next n)) ss
+    → Fails stop (λ n s. read_on (reads n s) (next n)) ss
 fails_later (stops.Stuck left) reads next ss x r h (rest, is, k) = (rest, is, goes_on next h k)
 fails_later stops.Memory reads next ss x r h t = tt
 
 -- what goes on behind the first
 pub comes_later : {A B : Type 0} (reads : Reading A) (next : ℕ → A → List Symbol → Read B) (ss : List Symbol) (x : A) (r : List Symbol) (b : Read B)
     → Comes reads ss (Found x r) → Comes (λ n s. next n x s) r b
-    → Comes (λ n s. after (reads n s) (next n)) ss b
+    → Comes (λ n s. read_on (reads n s) (next n)) ss b
 comes_later reads next ss x r b h k = goes_on next h k
 
 -- ---- two, of which what goes on behind them knows both
 
 -- the second of two, when the first is known
 pub second_alone : {A B C : Type 0} (b : Read B) (x : A) (next : A → B → List Symbol → Read C)
-    → after b (next x) ≡ after {A = A × B} (after b (λ y t. Found (x, y) t)) (λ p s. next p.0 p.1 s)
+    → read_on b (next x) ≡ read_on {A = A × B} (read_on b (λ y t. Found (x, y) t)) (λ p s. next p.0 p.1 s)
 second_alone (Found y t) x next = refl
 second_alone (Stuck t) x next = refl
 second_alone Unread x next = refl
 
 -- two are read as one
 pub both_as_one : {A B C : Type 0} (a : Read A) (second : List Symbol → Read B) (next : A → B → List Symbol → Read C)
-    → after a (λ x s. after (second s) (next x)) ≡ after {A = A × B} (after {B = A × B} a (λ x s. after (second s) (λ y t. Found (x, y) t)))
+    → read_on a (λ x s. read_on (second s) (next x)) ≡ read_on {A = A × B} (read_on {B = A × B} a (λ x s. read_on (second s) (λ y t. Found (x, y) t)))
     (λ p s. next p.0 p.1 s)
 both_as_one (Found x s) second next = second_alone (second s) x next
 both_as_one (Stuck s) second next = refl
@@ -143,36 +143,36 @@ both_as_one Unread second next = refl
 pub comes_both : {A B C : Type 0} (first : Reading A) (second : Reading B) (next : ℕ → A → B → List Symbol → Read C) (ss : List Symbol) (x : A)
     (y : B) (r : List Symbol) (c : Read C)
     → Comes (first >>> second) ss (Found (x, y) r) → Comes (λ n s. next n x y s) r c
-    → Comes (λ n s. after (first n s) (λ z t. after (second n t) (next n z))) ss c
+    → Comes (λ n s. read_on (first n s) (λ z t. read_on (second n t) (next n z))) ss c
 comes_both first second next ss x y r c h k =
-    alike (λ n s. after ((first >>> second) n s) (λ p t. next n p.0 p.1 t))
-    (λ n s. after (first n s) (λ z t. after (second n t) (next n z))) ss ss c (λ n. both_as_one (first n ss) (second n) (next n))
+    alike (λ n s. read_on ((first >>> second) n s) (λ p t. next n p.0 p.1 t))
+    (λ n s. read_on (first n s) (λ z t. read_on (second n t) (next n z))) ss ss c (λ n. both_as_one (first n ss) (second n) (next n))
     (goes_on (λ n p t. next n p.0 p.1 t) h k)
 
 -- where one of two stops
 pub fails_both : {A B C : Type 0} (stop : Stop) (first : Reading A) (second : Reading B) (next : ℕ → A → B → List Symbol → Read C)
     (ss : List Symbol) → Fails stop (first >>> second) ss
-    → Fails stop (λ n s. after (first n s) (λ z t. after (second n t) (next n z))) ss
+    → Fails stop (λ n s. read_on (first n s) (λ z t. read_on (second n t) (next n z))) ss
 fails_both stop first second next ss h =
-    fails_alike stop (λ n s. after (first n s) (λ z t. after (second n t) (next n z)))
-    (λ n s. after ((first >>> second) n s) (λ p t. next n p.0 p.1 t)) ss ss (λ n. both_as_one (first n ss) (second n) (next n))
+    fails_alike stop (λ n s. read_on (first n s) (λ z t. read_on (second n t) (next n z)))
+    (λ n s. read_on ((first >>> second) n s) (λ p t. next n p.0 p.1 t)) ss ss (λ n. both_as_one (first n ss) (second n) (next n))
     (fails_now stop (first >>> second) (λ n p t. next n p.0 p.1 t) ss h)
 
 -- where what goes on behind two stops
 pub fails_behind_both : {A B C : Type 0} (stop : Stop) (first : Reading A) (second : Reading B) (next : ℕ → A → B → List Symbol → Read C)
     (ss : List Symbol) (x : A) (y : B) (r : List Symbol)
     → Comes (first >>> second) ss (Found (x, y) r) → Fails stop (λ n s. next n x y s) r
-    → Fails stop (λ n s. after (first n s) (λ z t. after (second n t) (next n z))) ss
+    → Fails stop (λ n s. read_on (first n s) (λ z t. read_on (second n t) (next n z))) ss
 fails_behind_both stop first second next ss x y r h k =
-    fails_alike stop (λ n s. after (first n s) (λ z t. after (second n t) (next n z)))
-    (λ n s. after ((first >>> second) n s) (λ p t. next n p.0 p.1 t)) ss ss (λ n. both_as_one (first n ss) (second n) (next n))
+    fails_alike stop (λ n s. read_on (first n s) (λ z t. read_on (second n t) (next n z)))
+    (λ n s. read_on ((first >>> second) n s) (λ p t. next n p.0 p.1 t)) ss ss (λ n. both_as_one (first n ss) (second n) (next n))
     (fails_later stop (first >>> second) (λ n p t. next n p.0 p.1 t) ss (x, y) r h k)
 
 -- what is said of what goes on behind two
 pub says_behind_both : {A B C D : Type 0} (found : D → Read C) (result : Result D Stop) (first : Reading A) (second : Reading B)
     (next : ℕ → A → B → List Symbol → Read C) (ss : List Symbol) (x : A) (y : B) (r : List Symbol)
     → Comes (first >>> second) ss (Found (x, y) r) → Says found result (λ n s. next n x y s) r
-    → Says found result (λ n s. after (first n s) (λ z t. after (second n t) (next n z))) ss
+    → Says found result (λ n s. read_on (first n s) (λ z t. read_on (second n t) (next n z))) ss
 says_behind_both found (Ok z) first second next ss x y r h k = comes_both first second next ss x y r (found z) h k
 says_behind_both found (Err stop) first second next ss x y r h k = fails_behind_both stop first second next ss x y r h k
 
@@ -202,17 +202,17 @@ says_roomy found result room here reads ss more h =
 -- what is said of it
 pub says_later : {A B C : Type 0} (found : A → Read B) (result : Result A Stop) (reads : Reading C) (ss : List Symbol) (x : C) (r : List Symbol)
     (next : ℕ → C → List Symbol → Read B) → Comes reads ss (Found x r) → Says found result (λ n s. next n x s) r
-    → Says found result (λ n s. after (reads n s) (next n)) ss
+    → Says found result (λ n s. read_on (reads n s) (next n)) ss
 says_later found (Ok y) reads ss x r next h k = goes_on next h k
 says_later found (Err stop) reads ss x r next h k = fails_later stop reads next ss x r h k
 
 -- where the first stops, and the error is handed on
 pub stops_here : {A B C : Type 0} (found : A → Read B) (result : Result A Stop) (stop : Stop) (reads : Reading C) (ss : List Symbol)
     (next : ℕ → C → List Symbol → Read B) → IsErrAnd result (λ y. y ≡ stop) → Fails stop reads ss
-    → Says found result (λ n s. after (reads n s) (next n)) ss
+    → Says found result (λ n s. read_on (reads n s) (next n)) ss
 stops_here found (Ok x) stop reads ss next q h = absurd q
 stops_here found (Err y) stop reads ss next q h =
-    subst (λ z. Fails z (λ n s. after (reads n s) (next n)) ss) (sym q) (fails_now stop reads next ss h)
+    subst (λ z. Fails z (λ n s. read_on (reads n s) (next n)) ss) (sym q) (fails_now stop reads next ss h)
 
 -- ---- one call more
 

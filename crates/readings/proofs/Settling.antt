@@ -1,7 +1,7 @@
 -- Readings settle: from so many calls on they come to one thing, which is told.
 use Rattle.std.proofs.Common.{◌≡◌, ℕ, zero, suc, ◌<◌, ◌≤◌, List, ◌++◌, length, Option, Some, None, ap, ◌∙◌, arith, length-append}
 use Rattle.readings.specs.Symbol.{Symbol}
-use Rattle.readings.specs.Reading.{Read, Found, Stuck, Unread, after, behind, found_or_stuck, mark}
+use Rattle.readings.specs.Reading.{Read, Found, Stuck, Unread, read_on, behind, found_or_stuck, mark}
 use Rattle.readings.specs.Lawful.{Settles, IsTold}
 
 -- whatever the number of calls
@@ -26,14 +26,14 @@ settles_one_more m reads s = record { comes = s.comes; told = s.told; is = from 
 
 -- what goes on behind what was found
 pub settles_behind : {A B : Type 0} (m : ℕ) (reads : ℕ → Read A) (next : ℕ → A → List Symbol → Read B) → Settles m reads
-    → ((x : A) (rest : List Symbol) → reads (suc m) ≡ Found x rest → Settles m (λ n. next n x rest)) → Settles m (λ n. after (reads n) (next n))
+    → ((x : A) (rest : List Symbol) → reads (suc m) ≡ Found x rest → Settles m (λ n. next n x rest)) → Settles m (λ n. read_on (reads n) (next n))
 settles_behind {A = A} {B = B} m reads next s k = by s.comes s.told s.is
   where
-    by : (a : Read A) → IsTold a → ((n : ℕ) → m < n → reads n ≡ a) → Settles m (λ n. after (reads n) (next n))
+    by : (a : Read A) → IsTold a → ((n : ℕ) → m < n → reads n ≡ a) → Settles m (λ n. read_on (reads n) (next n))
     by (Found x rest) t h =
         let g = k x rest (h (suc m) (omega arith)) in
-        record { comes = g.comes; told = g.told; is = λ n lt. ap (λ a. after a (next n)) (h n lt) ∙ g.is n lt }
-    by (Stuck rest) t h = record { comes = Stuck rest; told = tt; is = λ n lt. ap (λ a. after a (next n)) (h n lt) }
+        record { comes = g.comes; told = g.told; is = λ n lt. ap (λ a. read_on a (next n)) (h n lt) ∙ g.is n lt }
+    by (Stuck rest) t h = record { comes = Stuck rest; told = tt; is = λ n lt. ap (λ a. read_on a (next n)) (h n lt) }
     by Unread t h = absurd t
 
 -- what stands behind a front is no longer than the whole

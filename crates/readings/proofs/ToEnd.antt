@@ -3,7 +3,7 @@ use Rattle.std.proofs.Common.{◌≡◌, ◌⊎◌, inl, inr, ℕ, zero, suc, �
 use Rattle.std.specs.Prelude.{flat_map}
 use Rattle.std.proofs.lemmas.List.{append_cancel_right}
 use Rattle.readings.specs.Symbol.{Symbol}
-use Rattle.readings.specs.Reading.{Read, Found, Stuck, Unread, after}
+use Rattle.readings.specs.Reading.{Read, Found, Stuck, Unread, read_on}
 use Rattle.readings.specs.Readings.{Reading, to_end}
 use Rattle.readings.specs.Lawful.{IsLocal, rest_of, with_rest, IsTold, Settles, Eventually, IsReading}
 use Rattle.readings.specs.Whole.{Goods, BeginsOne, EndsBefore, StopsIn}
@@ -25,7 +25,7 @@ module _ {A : Type 0} (spelled : A → List Symbol) (good : A → Type 0) (ends 
     end_sound zero ss xs rest e = absurd (cc)
     end_sound (suc n) [] xs rest e = found_is (Whole []) [] xs [] rest e (record { none = refl; fits = tt; whole = refl })
     end_sound (suc n) (s ∷ ss) xs rest e =
-        let a = after_found (reads n (s ∷ ss)) (λ x r. after (to_end reads n r) (λ ys t. Found (x ∷ ys) t)) xs rest e in
+        let a = after_found (reads n (s ∷ ss)) (λ x r. read_on (to_end reads n r) (λ ys t. Found (x ∷ ys) t)) xs rest e in
         let b = after_found (to_end reads n a.1) (λ ys t. Found (a.0 ∷ ys) t) xs rest a.3 in
         let x = l.law.sound n (s ∷ ss) a.0 a.1 a.2 in
         let ys = end_sound n a.1 b.0 b.1 b.2 in
@@ -38,7 +38,7 @@ module _ {A : Type 0} (spelled : A → List Symbol) (good : A → Type 0) (ends 
 
     -- so the list goes on with it
     goes_on : (n : ℕ) (ss : List Symbol) (x : A) (r : List Symbol) → 0 < length ss
-        → to_end reads (suc n) ss ≡ after (reads n ss) (λ x r. after (to_end reads n r) (λ xs t. Found (x ∷ xs) t))
+        → to_end reads (suc n) ss ≡ read_on (reads n ss) (λ x r. read_on (to_end reads n r) (λ xs t. Found (x ∷ xs) t))
     goes_on n [] x r lt = absurd (omega (arith, lt))
     goes_on n (s ∷ ss) x r lt = refl
 
@@ -59,7 +59,7 @@ module _ {A : Type 0} (spelled : A → List Symbol) (good : A → Type 0) (ends 
             by zero le = absurd (omega arith)
             by (suc n) le =
                 goes_on n (spelled x ++ flat_map spelled xs) x (flat_map spelled xs) (omega (arith, length-append (spelled x) (flat_map spelled xs), some x))
-                ∙ on (reads n (spelled x ++ flat_map spelled xs)) x (flat_map spelled xs) (λ x r. after (to_end reads n r) (λ ys t. Found (x ∷ ys) t))
+                ∙ on (reads n (spelled x ++ flat_map spelled xs)) x (flat_map spelled xs) (λ x r. read_on (to_end reads n r) (λ ys t. Found (x ∷ ys) t))
                 (Found (x ∷ xs) []) (a.1 n (omega arith))
                 (on (to_end reads n (flat_map spelled xs)) xs [] (λ ys t. Found (x ∷ ys) t) (Found (x ∷ xs) []) (b.1 n (omega arith)) refl)
 
@@ -68,9 +68,9 @@ module _ {A : Type 0} (spelled : A → List Symbol) (good : A → Type 0) (ends 
     end_local zero ss = unread_locally (to_end reads zero) ss
     end_local (suc n) [] = found_empty (to_end reads (suc n)) []
     end_local (suc n) (s ∷ ss) =
-        let goes : List Symbol → Read (List A) = λ t. after (reads n t) (λ x r. after (to_end reads n r) (λ xs u. Found (x ∷ xs) u)) in
+        let goes : List Symbol → Read (List A) = λ t. read_on (reads n t) (λ x r. read_on (to_end reads n r) (λ xs u. Found (x ∷ xs) u)) in
         agree_local (to_end reads (suc n)) goes s ss (goes (s ∷ ss)) (λ t. refl)
-        (after_local (reads n) (λ x r. after (to_end reads n r) (λ xs u. Found (x ∷ xs) u)) (l.law.local n)
+        (after_local (reads n) (λ x r. read_on (to_end reads n r) (λ xs u. Found (x ∷ xs) u)) (l.law.local n)
         (λ x. after_local (to_end reads n) (λ xs u. Found (x ∷ xs) u) (end_local n) (λ xs. found_local (x ∷ xs))) (s ∷ ss))
 
     -- where it is stuck, the symbols before go on to be things
@@ -112,7 +112,7 @@ module _ {A : Type 0} (spelled : A → List Symbol) (good : A → Type 0) (ends 
         })
         (λ i. found_not_stuck (h.0 ∷ i.0) i.1 rest i.3)
         (after_stuck (to_end reads n h.1) (λ xs t. Found (h.0 ∷ xs) t) rest h.3))
-        (after_stuck (reads n (s ∷ ss)) (λ x r. after (to_end reads n r) (λ xs t. Found (x ∷ xs) t)) rest e)
+        (after_stuck (reads n (s ∷ ss)) (λ x r. read_on (to_end reads n r) (λ xs t. Found (x ∷ xs) t)) rest e)
 
     -- it settles
     settled_of : (k : ℕ) (ss : List Symbol) → length ss ≤ k → Settles (suc (length ss)) (λ n. to_end reads n ss)
@@ -124,10 +124,10 @@ module _ {A : Type 0} (spelled : A → List Symbol) (good : A → Type 0) (ends 
     settled_of zero (s ∷ ss) le = absurd (omega arith)
     settled_of (suc k) (s ∷ ss) le =
         settles_one_more (length (s ∷ ss)) (λ n. to_end reads n (s ∷ ss))
-        (settles_behind (length (s ∷ ss)) (λ n. reads n (s ∷ ss)) (λ n x r. after (to_end reads n r) (λ xs t. Found (x ∷ xs) t)) (l.law.settled (s ∷ ss))
+        (settles_behind (length (s ∷ ss)) (λ n. reads n (s ∷ ss)) (λ n x r. read_on (to_end reads n r) (λ xs t. Found (x ∷ xs) t)) (l.law.settled (s ∷ ss))
         (λ x r e.
         let less = shorter (suc (length (s ∷ ss))) (s ∷ ss) x r e in
-        settles_later (suc (length r)) (length (s ∷ ss)) (λ n. after (to_end reads n r) (λ xs t. Found (x ∷ xs) t)) (omega (arith, less))
+        settles_later (suc (length r)) (length (s ∷ ss)) (λ n. read_on (to_end reads n r) (λ xs t. Found (x ∷ xs) t)) (omega (arith, less))
         (settles_behind (suc (length r)) (λ n. to_end reads n r) (λ n xs t. Found (x ∷ xs) t) (settled_of k r (omega (arith, le, less)))
         (λ xs t f. settles_at_once (suc (length r)) (λ n. Found (x ∷ xs) t) (Found (x ∷ xs) t) tt (λ n. refl)))))
 

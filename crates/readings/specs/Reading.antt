@@ -13,10 +13,10 @@ pub data Read (A : Type 0) : Type 0 where
   Unread : Read A
 
 -- what is read behind what was found
-abbrev pub after : {A B : Type 0} → Read A → (A → List Symbol → Read B) → Read B
-after (Found x rest) next = next x rest
-after (Stuck rest) next = Stuck rest
-after Unread next = Unread
+abbrev pub read_on : {A B : Type 0} → Read A → (A → List Symbol → Read B) → Read B
+read_on (Found x rest) next = next x rest
+read_on (Stuck rest) next = Stuck rest
+read_on Unread next = Unread
 
 -- ---- single symbols
 
