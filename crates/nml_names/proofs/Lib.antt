@@ -1,0 +1,11 @@
+pub mod Notes
+pub mod DeclaredNames
+pub mod Items
+pub mod Turns
+pub mod Search
+pub mod RuleNames
+pub mod Cycles
+pub mod Tallying
+pub mod Roots
+pub mod Linears
+pub mod Sizes

@@ -1,7 +1,0 @@
-use Rattle.std.proofs.Common.{◌≡◌, take, map}
-use Rattle.nml_types.specs.Below.{looked, below}
-use Rattle.nml_types.proofs.below.graph.Given as goal
-
--- the rows so far
-abbrev pub invariant-loop-item : goal.invariant-loop-item
-invariant-loop-item l = l.rows.items ≡ map (below (looked l.names.entries)) (take l.item-index l.items)

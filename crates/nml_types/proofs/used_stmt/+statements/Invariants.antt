@@ -1,8 +1,0 @@
-use Rattle.std.proofs.Common.{◌≡◌, drop}
-use Rattle.nml_tree.specs.Block.{block}
-use Rattle.nml_tree.specs.Uses.{in_block}
-use Rattle.nml_types.specs.Found.{met, is_found}
-use Rattle.nml_types.proofs.used_stmt.+statements.Given as goal
-
-abbrev pub invariant-statements-loop-one : goal.invariant-statements-loop-one
-invariant-statements-loop-one l = met (is_found l.s) l.found (in_block (block (drop l.one-index l.stmts))) ≡ met (is_found l.s) l.fn.found (in_block (block l.stmts))
