@@ -1,0 +1,5 @@
+//! How wide the images of rules are.
+#![tactic(auto)]
+
+mod probe;
+mod span;
