@@ -1,1 +1,3 @@
 mod Spans
+mod Pass
+mod Faults
