@@ -1,26 +1,24 @@
 -- A rule is wrong by its widths exactly where its images are.
-use Rattle.std.proofs.Common.{ℕ, zero, suc, ◌≡◌, ◌≢◌, ◌≤◌, ◌<◌, ◌+◌, nat_lt, refl, sym, ◌∙◌, ap, subst, arith, Bool, true, false, not, ◌||◌, ◌&&◌, List, [], ◌∷◌, map, length, get_or, slice_get, Option, Some, None, option_map, option_and_then, codes, ◌⊎◌, inl, inr, Decides-eqb, true≢false}
+use Rattle.std.proofs.Common.{ℕ, zero, suc, ◌≡◌, ◌≢◌, ◌≤◌, ◌<◌, ◌+◌, nat_lt, refl, sym, ◌∙◌, ap, subst, arith, Bool, true, false, not, ◌||◌, ◌&&◌, List, [], ◌∷◌, length, get_or, slice_get, Option, Some, None, option_map, codes, ◌⊎◌, inl, inr, true≢false}
+use Rattle.std.proofs.lemmas.Bool.Decides.{Decides-eqb}
 use Rattle.std.specs.Prelude.{◌==◌}
-use Rattle.std.proofs.lemmas.Bool.{cases_eq, cases_lt, lt-ltb, ltb-true}
-use Rattle.std.proofs.lemmas.Option.{slice_get-get_or}
-use Rattle.nk_base.specs.Text.{text_eq}
+use Rattle.std.proofs.lemmas.Bool.{cases_lt, lt-ltb, ltb-true}
 use Rattle.nml_tree.specs.declared.tree.Item.{Item}
 use Rattle.nml_tree.specs.declared.tree.Item.TheVariants as item
 use Rattle.nml_tree.specs.declared.tree.Desc.{Desc}
 use Rattle.nml_tree.specs.NameFault as kind
-use Rattle.nml_tree.specs.Table.{Text, Table, Declared, declared, table, alternative}
+use Rattle.nml_tree.specs.Table.{Text, Table, Declared, declared, table}
 use Rattle.nml_tree.specs.Derivation.{Derivation, Pick, Compose, IsDerivation}
 use Rattle.nml_tree.specs.Image.{image}
 use Rattle.nml_tree.specs.Uses.{declares}
 use Rattle.nml_tree.specs.Valid.{WordFault}
-use Rattle.nml_tree.specs.Refused.{DeclaresAt, IsFirstRule}
-use Rattle.nml_tree.specs.Worth.{is_rule}
+use Rattle.nml_tree.specs.Refused.{IsFirstRule}
 use Rattle.nml_tree.proofs.OneDerivation.{or_of}
 use Rattle.nml_tree.proofs.SameText.{same_text, equal_text}
 use Rattle.nml_names.specs.declared.names.Declaration.{Declaration}
 use Rattle.nml_names.specs.Naming.{declaration}
-use Rattle.nml_names.proofs.RuleNames.{Stands, first_item, rule_part, known_stands, named, first_least, some_same}
-use Rattle.nml_names.proofs.Cycles.{RuleAt, declared_here, below_length}
+use Rattle.nml_names.proofs.RuleNames.{Stands, first_item, known_stands, named, first_least, some_same}
+use Rattle.nml_names.proofs.Cycles.{declared_here, below_length}
 use Rattle.nml_known.specs.Known.{item_number}
 use Rattle.nml_upward.specs.Upward.{IsRule, HasNumber}
 use Rattle.nml_upward.proofs.Upward.{rule_number, at_number}
@@ -58,9 +56,9 @@ root_fault : (t : Table) (a : Text) (s : Span) → IsSpan t a s → a ≡ codes 
 root_fault t a s k root h = elim (either (differs s) (is_outside s) h) [
   | inl d ↦ WordFault.RootDiffers k.lowest.0 k.highest.0 root k.lowest.1 k.highest.1 (differ_forth t a s k d)
   | inr o ↦ elim (either (nat_lt s.least 8) (nat_lt 64 s.most) o) [
-      | inl low ↦ (let l = ltb-true s.least 8 low in let e = k.lowest.2 in WordFault.Narrow k.lowest.0 root k.lowest.1 (omega (arith, l, e)))
-      | inr high ↦ (let l = ltb-true 64 s.most high in let e = k.highest.2 in WordFault.Wide k.highest.0 root k.highest.1 (omega (arith, l, e)))
-    ]
+    | inl low ↦ (let l = ltb-true s.least 8 low in let e = k.lowest.2 in WordFault.Narrow k.lowest.0 root k.lowest.1 (omega (arith, l, e)))
+    | inr high ↦ (let l = ltb-true 64 s.most high in let e = k.highest.2 in WordFault.Wide k.highest.0 root k.highest.1 (omega (arith, l, e)))
+  ]
 ]
 
 narrow_back : (t : Table) (a : Text) (s : Span) → IsSpan t a s → (x : Derivation) → IsDerivation t a x → length (image x) < 8 → is_outside s ≡ true
@@ -108,10 +106,10 @@ or_wrong t a name s is k (WordFault.Narrow x root hx low) = or_right (differs s)
 or_wrong t a name s is k (WordFault.Wide x root hx high) = or_right (differs s) _ (and_both (is_root name) (is_outside s) (is_the_root a name is root) (wide_back t a s k x hx high))
 
 and_wrong : (t : Table) (a name : Text) (s : Span) → a ≡ name → ((mode : Bool) (names : List Text) → declared t a ≡ Some (Declared.Or mode names) → ⊥) → IsSpan t a s → WordFault t a → (is_root name && (differs s || is_outside s)) ≡ true
-and_wrong t a name s is no k (WordFault.Differs mode names x y here hx hy ne) = absurd (no mode names here)
-and_wrong t a name s is no k (WordFault.RootDiffers x y root hx hy ne) = and_both (is_root name) _ (is_the_root a name is root) (or_left (differs s) (is_outside s) (differ_back t a s k x y hx hy ne))
-and_wrong t a name s is no k (WordFault.Narrow x root hx low) = and_both (is_root name) _ (is_the_root a name is root) (or_right (differs s) (is_outside s) (narrow_back t a s k x hx low))
-and_wrong t a name s is no k (WordFault.Wide x root hx high) = and_both (is_root name) _ (is_the_root a name is root) (or_right (differs s) (is_outside s) (wide_back t a s k x hx high))
+and_wrong t a name s is other k (WordFault.Differs mode names x y here hx hy ne) = absurd (other mode names here)
+and_wrong t a name s is other k (WordFault.RootDiffers x y root hx hy ne) = and_both (is_root name) _ (is_the_root a name is root) (or_left (differs s) (is_outside s) (differ_back t a s k x y hx hy ne))
+and_wrong t a name s is other k (WordFault.Narrow x root hx low) = and_both (is_root name) _ (is_the_root a name is root) (or_right (differs s) (is_outside s) (narrow_back t a s k x hx low))
+and_wrong t a name s is other k (WordFault.Wide x root hx high) = and_both (is_root name) _ (is_the_root a name is root) (or_right (differs s) (is_outside s) (wide_back t a s k x hx high))
 
 fault_wrong : (d : Desc) (a : Text) (i : Item) (s : Span) → first_item d.items a ≡ Some i → a ≡ (declares i).text → kind.is_rule i ≡ true → IsSpan (table d) a s → WordFault (table d) a → is_wrong i s ≡ true
 fault_wrong d a (item.Let at n equals minus z) s first name r k h = absurd cc

@@ -1,6 +1,6 @@
 -- The widths of all rules, one rule of the order after the other.
-use Rattle.std.proofs.Common.{ℕ, zero, suc, ◌≡◌, ◌≤◌, ◌<◌, ◌+◌, refl, sym, ◌∙◌, ap, subst, arith, Bool, true, false, List, [], ◌∷◌, map, length, get_or, set, slice_get, slice_index_or, Option, Some, None, option_map, Contains, ◌⊎◌, inl, inr}
-use Rattle.std.specs.Prelude.{unwrap_or, ◌&&◌, nat_le, min}
+use Rattle.std.proofs.Common.{ℕ, zero, suc, ◌≡◌, ◌≤◌, ◌<◌, ◌+◌, refl, sym, ◌∙◌, ap, subst, arith, Bool, true, false, List, [], ◌∷◌, map, length, set, slice_get, slice_index_or, Option, Some, None, option_map, Contains, inl, inr}
+use Rattle.std.specs.Prelude.{unwrap_or, ◌&&◌, nat_le}
 use Rattle.std.proofs.lemmas.Bool.{cases_eq, cases_lt, leb-true}
 use Rattle.std.proofs.lemmas.List.{length-set}
 use Rattle.nk_base.specs.declared.number.Ty.{Ty}
@@ -12,20 +12,21 @@ use Rattle.nml_tree.specs.declared.tree.Item.TheVariants as item
 use Rattle.nml_tree.specs.declared.tree.Desc.{Desc}
 use Rattle.nml_tree.specs.Formula.{formula}
 use Rattle.nml_tree.specs.NameFault as kind
-use Rattle.nml_tree.specs.Table.{Text, Table, Rule, Declared, Parameter, declared, table, parameter_of, is_mode_word, rule_of, pars_of}
+use Rattle.nml_tree.specs.Table.{Text, Rule, Declared, Parameter, declared, table, parameter_of, is_mode_word, rule_of}
 use Rattle.nml_tree.specs.Reach.{IsBelow}
+use Rattle.nml_tree.specs.Refused.{IsFreeBelow}
 use Rattle.nml_tree.specs.Worth.{is_type}
 use Rattle.nml_names.specs.Below.{below, graph}
 use Rattle.nml_names.specs.Graphs.{IsOrder, StandsBefore}
 use Rattle.nml_names.specs.Naming.{declaration}
 use Rattle.nml_names.proofs.Cycles.{RuleAt, declared_here, below_length, length_rows}
 use Rattle.nml_names.proofs.RuleNames.{first_item, some_same}
-use Rattle.nml_known.specs.Known.{told, item_number, parameter_told}
+use Rattle.nml_known.specs.Known.{told, parameter_told}
 use Rattle.nml_upward.specs.Upward.{IsRule, HasNumber, IsParameter, AreMade}
-use Rattle.nml_upward.proofs.Upward.{at_number, below_is_rule, below_stands}
+use Rattle.nml_upward.proofs.Upward.{are_made, at_number, below_is_rule, below_stands}
 use Rattle.nml_words.specs.declared.span.Span.{Span}
-use Rattle.nml_words.specs.Span.{span, IsSpan, span_given, text_span, with_alternatives}
-use Rattle.nml_words.specs.Words.{span_at, span_named, parameter_span, par_span, par_spans, item_span, IsSpanAt, AreSpans, AreUpTo}
+use Rattle.nml_words.specs.Span.{span, IsSpan}
+use Rattle.nml_words.specs.Words.{span_at, span_named, parameter_span, par_span, item_span, with_item, with_span, AreSpans, AreUpTo}
 use Rattle.nml_words.proofs.Spans.{or_span, and_span, IsParSpan}
 
 and_right : (a b : Bool) → (a && b) ≡ true → b ≡ true
@@ -44,13 +45,13 @@ named_span d spans b m h = ap (λ o. span_at spans (unwrap_or o 0)) h
 
 -- of the rules before a place of the order
 module _ (d : Desc) (made : AreMade (table d)) (order : List ℕ) (is : IsOrder (graph d.items) order) (p : ℕ) (low : p < length order) (spans : List Span) (known : AreUpTo d order spans p) where
-  n : ℕ
+  abbrev n : ℕ
   n = slice_index_or order p 0
 
   below_span : (a b : Text) → HasNumber d a n → IsRule (table d) a → IsBelow (table d) a b → IsSpan (table d) b (span_named d spans b)
-  below_span a b h rule below =
-      let e = below_stands d made order is p low a b h rule below in
-      rw (named_span d spans b e.0 e.1) (known.right e.0 e.2 b e.1 (below_is_rule (table d) made a b below))
+  below_span a b h rule lower =
+      let e = below_stands d made order is p low a b h rule lower in
+      rw (named_span d spans b e.0 e.1) (known.right e.0 e.2 b e.1 (below_is_rule (table d) made a b lower))
 
   par_right : (a : Text) (rule : Rule) → HasNumber d a n → IsRule (table d) a → declared (table d) a ≡ Some (Declared.And rule) → (q : Par) → Contains rule.pars q → IsParSpan (table d) (parameter_of (table d) q.ty) (par_span d spans q)
   par_right a rule h r here q c = by (parameter_of (table d) q.ty) refl (made.parameters a rule here q c)
@@ -122,6 +123,19 @@ no_span d order p spans known far = record {
     | inr other ↦ known.right m (stood order p m st other) name h rule
   ];
 }
+
+none_far : (items : List Item) (n : ℕ) → slice_get items n ≡ None → length items ≤ n
+none_far [] n h = omega arith
+none_far (x ∷ items) zero h = absurd cc
+none_far (x ∷ items) (suc n) h = let l = none_far items n h in omega (arith, l)
+
+-- one place more, whatever stands there
+pub next_place : (d : Desc) → IsFreeBelow 9 d → (order : List ℕ) → IsOrder (graph d.items) order → (p : ℕ) → p < length order → (spans new : List Span) → AreUpTo d order spans p → new ≡ with_span d spans (slice_index_or order p 0) → AreUpTo d order new (p + 1)
+next_place d free order is p low spans new known set_is = rw set_is (by (slice_get d.items (slice_index_or order p 0)) refl)
+  where
+    by : (o : Option Item) → slice_get d.items (slice_index_or order p 0) ≡ o → AreUpTo d order (with_item d spans (slice_index_or order p 0) o) (p + 1)
+    by None e = no_span d order p spans known (none_far d.items (slice_index_or order p 0) e)
+    by (Some i) e = next_span d (are_made d (λ k less. free k (omega (arith, less)))) order is p low spans known i e
 
 -- none yet
 pub first_spans : (d : Desc) (order : List ℕ) (spans : List Span) → length spans ≡ length d.items → AreUpTo d order spans 0

@@ -1,5 +1,5 @@
 -- What the code counts from the widths of parts and alternatives are the widths of the rule's images.
-use Rattle.std.proofs.Common.{ℕ, zero, suc, ◌≡◌, ◌≤◌, ◌<◌, ◌+◌, min, max, ℤ, pos, refl, sym, ◌∙◌, ap, subst, arith, Bool, true, false, List, [], ◌∷◌, map, length, slice_get, Option, Some, None, Contains, ◌⊎◌, inl, inr}
+use Rattle.std.proofs.Common.{ℕ, zero, suc, ◌≡◌, ◌≤◌, ◌<◌, pos, refl, sym, ◌∙◌, ap, subst, arith, Bool, true, false, List, [], ◌∷◌, map, length, slice_get, Option, Some, None, Contains, ◌⊎◌, inl, inr}
 use Rattle.std.specs.Prelude.{cond, unwrap_or}
 use Rattle.std.specs.Map.{lookup}
 use Rattle.nk_base.specs.Text.{text_eq}
@@ -9,16 +9,15 @@ use Rattle.nml_tree.specs.declared.attributes.Arg.{Arg}
 use Rattle.nml_tree.specs.declared.attributes.Template.{Template}
 use Rattle.nml_tree.specs.declared.attributes.Template.TheVariants as template
 use Rattle.nml_tree.specs.Attribute.{FormatPiece, Letter, Directive, pieces}
-use Rattle.nml_tree.specs.Table.{Text, Table, Rule, Declared, Parameter, declared, alternative, parameter_of}
+use Rattle.nml_tree.specs.Table.{Text, Table, Rule, Declared, Parameter, declared, parameter_of}
 use Rattle.nml_tree.specs.Derivation.{Derivation, Arguments, Pick, Compose, NoMore, Part, Field, IsDerivation, Fill}
 use Rattle.nml_tree.specs.Image.{image, images}
 use Rattle.nml_tree.specs.ImageWidth.{pieces_width, width_given, text_width}
 use Rattle.nml_tree.proofs.ImageWidths.{widths, image_text_width, below_width}
 use Rattle.nml_tree.proofs.Height.{picked}
-use Rattle.nml_tree.proofs.OneDerivation.{or_of}
 use Rattle.nml_widths.proofs.ModeFits.{zero_in}
 use Rattle.nml_words.specs.declared.span.Span.{Span}
-use Rattle.nml_words.specs.Span.{span, plus, joined, Spans, IsSpan, span_given, with_pieces, text_span, with_alternatives}
+use Rattle.nml_words.specs.Span.{span, joined, Spans, IsSpan, span_given, text_span, with_alternatives}
 
 -- one set of derivations for another, with images as wide
 pub same_spans : (P Q : Derivation → Type 0) (s : Span) → ((x : Derivation) → P x → (y : Derivation) × Q y × (length (image y) ≡ length (image x))) → ((y : Derivation) → Q y → (x : Derivation) × P x × (length (image y) ≡ length (image x))) → Spans P s → Spans Q s
@@ -74,9 +73,9 @@ further t given (n ∷ ns) P s h each =
     (λ y q. elim q [
       | inl p ↦ (y, inl (inl p), refl)
       | inr o ↦ elim (in_either n o.0 ns o.1) [
-          | inl e ↦ (y, inl (inr (subst (λ b. IsDerivation t b y) (sym e) o.2)), refl)
-          | inr c ↦ (y, inr (o.0, c, o.2), refl)
-        ]
+        | inl e ↦ (y, inl (inr (subst (λ b. IsDerivation t b y) (sym e) o.2)), refl)
+        | inr c ↦ (y, inr (o.0, c, o.2), refl)
+      ]
     ])
     (further t given ns (λ x. P x ⊎ IsDerivation t n x) (joined s (given n)) both (λ b c. each b (in_behind n b ns c)))
 

@@ -1,7 +1,8 @@
 -- The widths that the images of a rule's derivations may have.
-use Rattle.std.specs.Prelude.{ℕ, ◌≡◌, ◌+◌, ◌≤◌, min, max, List, [], ◌∷◌, map, length, Option, Some, None, unwrap_or}
+use Rattle.std.specs.Prelude.{ℕ, ◌≡◌, ◌+◌, ◌≤◌, min, max, List, [], ◌∷◌, map, length, unwrap_or}
 use Rattle.std.specs.Map.{lookup}
 use Rattle.nk_base.specs.Text.{text_eq}
+use Rattle.nml_tree.specs.declared.attributes.Arg.{Arg}
 use Rattle.nml_tree.specs.declared.attributes.Template.{Template}
 use Rattle.nml_tree.specs.declared.attributes.Template.TheVariants as template
 use Rattle.nml_tree.specs.Attribute.{FormatPiece, pieces}
@@ -37,15 +38,23 @@ IsSpan t name s = Spans (IsDerivation t name) s
 abbrev pub span_given : List (Text × Span) → Text → Span
 span_given given name = unwrap_or (lookup (text_eq name) given) (span 0 0)
 
+-- the map has what is given
+abbrev pub AreGiven : List (Text × Span) → List (Text × Span) → Type 0
+AreGiven entries given = (name : Text) → lookup (text_eq name) entries ≡ lookup (text_eq name) given
+
 -- behind these widths, those of pieces, each directive of which takes the next
 abbrev pub with_pieces : Span → List FormatPiece → List Span → Span
 with_pieces s ps args = span (s.least + pieces_width ps (map (λ a. a.least) args)) (s.most + pieces_width ps (map (λ a. a.most) args))
+
+-- what the arguments of `format` have
+abbrev pub args_given : (Text → Span) → List (ℕ × Arg) → List Span
+args_given given args = map (λ (comma, a). given a.name.text) args
 
 -- the widths of an and-rule's images, by those of its parameters
 abbrev pub text_span : (Text → Span) → Template → Span
 text_span given (template.Plain q) = span (length q.text) (length q.text)
 text_span given (template.Part n dot a) = given n.text
-text_span given (template.Format at p q args r) = with_pieces (span 0 0) (pieces q.text) (map (λ (comma, a). given a.name.text) args)
+text_span given (template.Format at p q args r) = with_pieces (span 0 0) (pieces q.text) (args_given given args)
 
 -- those of an or-rule's images: these, or those of further alternatives
 abbrev pub with_alternatives : (Text → Span) → Span → List Text → Span

@@ -1,5 +1,5 @@
 -- The widths of the images of all rules, and the first that are wrong. For private contracts.
-use Rattle.std.specs.Prelude.{ℕ, ◌≡◌, ◌<◌, ◌==◌, nat_lt, Bool, true, false, not, ◌||◌, ◌&&◌, List, [], ◌∷◌, map, length, slice_get, Option, Some, None, option_map, unwrap_or, codes}
+use Rattle.std.specs.Prelude.{ℕ, ◌≡◌, ◌<◌, ◌==◌, nat_lt, Bool, false, not, ◌||◌, ◌&&◌, List, map, length, slice_get, slice_set, Option, Some, None, option_map, unwrap_or, codes}
 use Rattle.nk_base.specs.Text.{text_eq}
 use Rattle.nk_base.specs.Number.{width_of}
 use Rattle.nml_tree.specs.declared.tree.Par.{Par}
@@ -45,6 +45,15 @@ item_span d spans (item.OrRule r) = with_alternatives (span_named d spans) (span
 item_span d spans (item.OpRule r) = text_span (span_given (par_spans (par_span d spans) (pars_of r.pars))) r.attrs.image_text
 item_span d spans (item.ModeRule r) = text_span (span_given (par_spans (par_span d spans) (pars_of r.pars))) r.attrs.image_text
 item_span d spans _ = span 0 0
+
+-- these, with that of the item
+abbrev pub with_item : Desc → List Span → ℕ → Option Item → List Span
+with_item d spans n None = spans
+with_item d spans n (Some i) = slice_set spans n (item_span d spans i)
+
+-- these, with that of the item of this number, where there is one
+abbrev pub with_span : Desc → List Span → ℕ → List Span
+with_span d spans n = with_item d spans n (slice_get d.items n)
 
 -- the rule that the item of this number declares has the widths that stand there
 abbrev pub IsSpanAt : Desc → List Span → ℕ → Type 0

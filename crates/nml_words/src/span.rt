@@ -2,6 +2,7 @@
 
 ghost use Rattle.std.specs.Prelude.{◌≡◌, IfOk};
 ghost use Rattle.nml_words.specs.Span as spec;
+ghost use Rattle.nml_words.specs.Words as words;
 
 use nk_base::Memory;
 
@@ -44,5 +45,19 @@ impl Span {
             least: self.least.min(other.least),
             most: self.most.max(other.most),
         }
+    }
+
+    /// Whether there are two widths or more.
+    pub fn differs(self) -> bool
+        ensures { result ≡ words.differs self }
+    {
+        self.least != self.most
+    }
+
+    /// Whether some width is below 8 or above 64.
+    pub fn is_outside(self) -> bool
+        ensures { result ≡ words.is_outside self }
+    {
+        self.least < 8 || self.most > 64
     }
 }
