@@ -1,0 +1,5 @@
+pub mod TextWidths
+mod Spans
+mod Maps
+mod Pass
+mod Faults
