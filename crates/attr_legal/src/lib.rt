@@ -1,0 +1,9 @@
+//! Whether a derivation is legal: on no path through its action does something happen twice that may happen once.
+#![tactic(auto)]
+
+mod key;
+mod laws;
+mod number;
+mod reads;
+
+pub use laws::lawful_by_tallies;
