@@ -1,3 +1,4 @@
 pub mod Tallies
 pub mod Among
 pub mod Readings
+pub mod Targets

@@ -1,3 +1,4 @@
 pub mod Key
 pub mod Tally
 pub mod Among
+pub mod Target

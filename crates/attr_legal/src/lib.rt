@@ -5,5 +5,6 @@ mod key;
 mod laws;
 mod number;
 mod reads;
+mod target;
 
 pub use laws::lawful_by_tallies;
