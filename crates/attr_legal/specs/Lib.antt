@@ -2,3 +2,5 @@ pub mod Key
 pub mod Tally
 pub mod Among
 pub mod Target
+pub mod Asked
+pub mod Nested

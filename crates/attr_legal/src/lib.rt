@@ -1,6 +1,7 @@
 //! Whether a derivation is legal: on no path through its action does something happen twice that may happen once.
 #![tactic(auto)]
 
+mod act;
 mod key;
 mod laws;
 mod number;

@@ -1,0 +1,61 @@
+-- How deep statements stand in actions.
+use Rattle.std.proofs.Common.{ℕ, zero, suc, ◌+◌, ◌-◌, ◌*◌, ◌≤◌, ◌<◌, max, List, [], ◌∷◌, map, Option, ◌≡◌, refl, sym, ◌∙◌, ap, subst, Some, None, Bool, true, false, cond, arith, suc-mul}
+use Rattle.std.specs.Prelude.{slice_get}
+use Rattle.std.specs.Map.{lookup}
+use Rattle.nk_base.specs.Text.{text_eq}
+use Rattle.nml_tree.specs.declared.statement.Stmt.{Stmt}
+use Rattle.nml_tree.specs.declared.statement.Stmt.TheOpen.{Stmt-F}
+use Rattle.nml_tree.specs.declared.statement.Stmt.TheFolds.{map-Stmt, ind-Stmt}
+use Rattle.nml_tree.specs.declared.statement.Stmt.TheViews.{roll-Stmt}
+use Rattle.nml_tree.specs.Block.{Block, Done, block_step, stmt, block}
+use Rattle.nml_tree.specs.Depth.{block_depth}
+use Rattle.nml_tree.specs.Table.{Text, Table, Rule, Declared, declared}
+use Rattle.nml_tree.proofs.BlockLaws.{stmt_at}
+use Rattle.attr_legal.specs.Nested.{deepest_action}
+
+-- an action is no deeper than the deepest
+not_deeper : (b : Bool) (y x : Declared) (r : Rule) (o : Option Declared) (most least : ℕ) → x ≡ Declared.And r → (y ≡ Declared.And r → block_depth r.action ≤ least) → most ≤ least → (o ≡ Some x → block_depth r.action ≤ most) → cond b (Some y) o ≡ Some x → block_depth r.action ≤ least
+not_deeper true y x r o most least is first low f h = let s : y ≡ x = cc in first (s ∙ is)
+not_deeper false y x r o most least is first low f h = omega (arith, f h, low)
+
+pub within_deepest : (t : Table) (name : Text) (r : Rule) → declared t name ≡ Some (Declared.And r) → block_depth r.action ≤ deepest_action t
+within_deepest [] name r is = absurd cc
+within_deepest ((q, Declared.And x) ∷ t) name r is = not_deeper (text_eq name q) (Declared.And x) (Declared.And r) r (declared t name) (deepest_action t) (max (block_depth x.action) (deepest_action t)) refl (λ e. (let s : x ≡ r = cc in rw (← s) (omega arith))) (omega arith) (within_deepest t name r) is
+within_deepest ((q, Declared.Constant z) ∷ t) name r is = not_deeper (text_eq name q) (Declared.Constant z) (Declared.And r) r (declared t name) (deepest_action t) (deepest_action t) refl (λ e. absurd cc) (omega arith) (within_deepest t name r) is
+within_deepest ((q, Declared.TypeName ty) ∷ t) name r is = not_deeper (text_eq name q) (Declared.TypeName ty) (Declared.And r) r (declared t name) (deepest_action t) (deepest_action t) refl (λ e. absurd cc) (omega arith) (within_deepest t name r) is
+within_deepest ((q, Declared.Storage n k ty) ∷ t) name r is = not_deeper (text_eq name q) (Declared.Storage n k ty) (Declared.And r) r (declared t name) (deepest_action t) (deepest_action t) refl (λ e. absurd cc) (omega arith) (within_deepest t name r) is
+within_deepest ((q, Declared.Trn n ty) ∷ t) name r is = not_deeper (text_eq name q) (Declared.Trn n ty) (Declared.And r) r (declared t name) (deepest_action t) (deepest_action t) refl (λ e. absurd cc) (omega arith) (within_deepest t name r) is
+within_deepest ((q, Declared.Inp ty) ∷ t) name r is = not_deeper (text_eq name q) (Declared.Inp ty) (Declared.And r) r (declared t name) (deepest_action t) (deepest_action t) refl (λ e. absurd cc) (omega arith) (within_deepest t name r) is
+within_deepest ((q, Declared.Out ty) ∷ t) name r is = not_deeper (text_eq name q) (Declared.Out ty) (Declared.And r) r (declared t name) (deepest_action t) (deepest_action t) refl (λ e. absurd cc) (omega arith) (within_deepest t name r) is
+within_deepest ((q, Declared.Or mode names) ∷ t) name r is = not_deeper (text_eq name q) (Declared.Or mode names) (Declared.And r) r (declared t name) (deepest_action t) (deepest_action t) refl (λ e. absurd cc) (omega arith) (within_deepest t name r) is
+
+-- a rule's statements are less than one more rule
+pub less_nested : (more limit d most : ℕ) → 0 < limit → d ≤ most → more + (limit - 1) * (2 * most + 5) + 2 * d + 2 < more + limit * (2 * most + 5)
+less_nested more zero d most some low = absurd (omega (arith, some))
+less_nested more (suc n) d most some low = let e : suc n - 1 ≡ n = omega arith in let f : suc n * (2 * most + 5) ≡ n * (2 * most + 5) + (2 * most + 5) = suc-mul n (2 * most + 5) in rw e (omega (arith, f, low))
+
+-- one statement, by whatever stands in it
+abbrev Adds : Stmt → Type 0
+Adds x = (rest : Block) → block_depth (stmt x rest) ≡ max (block_depth (stmt x Done)) (block_depth rest)
+
+abbrev Kid : Type 0
+Kid = (x : Stmt) × Adds x
+
+abbrev plain : Stmt-F Kid → Stmt-F Stmt
+plain y = map-Stmt Kid Stmt (λ x. x.0) y
+
+depth_step : (y : Stmt-F Kid) (rest : Block) → block_depth (block_step (map-Stmt Stmt (Block → Block) stmt (plain y)) rest) ≡ max (block_depth (block_step (map-Stmt Stmt (Block → Block) stmt (plain y)) Done)) (block_depth rest)
+depth_step (Stmt-F.Assign p at x semicolon) rest = omega arith
+depth_step (Stmt-F.Part n dot at semicolon) rest = omega arith
+depth_step (Stmt-F.Halt at p x q semicolon) rest = omega arith
+depth_step (Stmt-F.If at c t xs None end semicolon) rest = omega arith
+depth_step (Stmt-F.If at c t xs (Some (f, ys)) end semicolon) rest = omega arith
+
+pub depth_before : (x : Stmt) (rest : Block) → block_depth (stmt x rest) ≡ max (block_depth (stmt x Done)) (block_depth rest)
+depth_before = ind-Stmt Adds (λ x y is. subst (λ z. Adds (roll-Stmt z)) is (λ rest. ap block_depth (stmt_at (plain y) refl rest) ∙ depth_step y rest ∙ ap (λ b. max (block_depth b) (block_depth rest)) (sym (stmt_at (plain y) refl Done))))
+
+-- one of the statements is no deeper than all
+pub depth_among : (list : List Stmt) (k : ℕ) (x : Stmt) → slice_get list k ≡ Some x → block_depth (stmt x Done) ≤ block_depth (block list)
+depth_among [] k x at = absurd cc
+depth_among (y ∷ list) zero x at = let e : y ≡ x = cc in let d = depth_before y (block list) in rw (← e) (omega (arith, d))
+depth_among (y ∷ list) (suc k) x at = let d = depth_before y (block list) in omega (arith, d, depth_among list k x at)
