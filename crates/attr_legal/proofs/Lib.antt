@@ -4,3 +4,4 @@ pub mod Readings
 pub mod Targets
 pub mod Nesting
 pub mod Weights
+pub mod WholeLegal

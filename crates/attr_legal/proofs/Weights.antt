@@ -5,19 +5,22 @@ use Rattle.std.specs.Map.{lookup}
 use Rattle.nk_base.specs.Text.{text_eq}
 use Rattle.nml_tree.specs.Act.{Term, Act, Number, Field, Cell, Trn, Inp, Out, Unary, Binary, Choose, Done, SetCell, SetTrn, Put, Halt, When, followed, assigned}
 use Rattle.nml_tree.specs.Block as block
-use Rattle.nml_tree.specs.Block.{Block}
-use Rattle.nml_tree.specs.Derivation.{Derivation, Arguments, Compose}
+use Rattle.nml_tree.specs.Block.{Block, Index}
+use Rattle.nml_tree.specs.declared.names.Name.{Name}
+use Rattle.nml_tree.specs.Derivation.{Derivation, Arguments, Compose, IsDerivation, fields_of}
 use Rattle.nml_tree.specs.Formula.{Formula}
 use Rattle.nml_tree.specs.Legal.{Event, Reads, Puts, Halts, WritesCell, WritesTrn}
-use Rattle.nml_tree.specs.Table.{Text, Table, Rule, declared}
+use Rattle.nml_tree.specs.Table.{Text, Table, Rule}
 use Rattle.nml_tree.specs.Value.{View}
 use Rattle.nml_tree.specs.Written as written
-use Rattle.nml_tree.specs.Written.{Argument, action_of, act, arguments, term, named}
-use Rattle.attr_eval.specs.Alone.{alone}
+use Rattle.nml_tree.specs.Written.{Argument, action_of, act, arguments, index_term, term}
+use Rattle.attr_eval.specs.Alone.{Alone, alone}
+use Rattle.attr_eval.proofs.Values.{stand_drop}
+use Rattle.nml_widths.specs.Fitting.{Each, EachIndex}
 use Rattle.attr_eval.specs.Lawful.{Shape, term_shape, act_shape}
-use Rattle.attr_eval.specs.Walks.{WalksAll}
+use Rattle.attr_eval.specs.Walks.{Walks, WalksAll}
 use Rattle.attr_legal.proofs.Tallies.{low}
-use Rattle.attr_legal.specs.Asked.{counts, weighed, weight}
+use Rattle.attr_legal.specs.Asked.{Acting, SoundIn, counts, weighed, weight}
 use Rattle.attr_legal.specs.Key.{key_of, meets}
 use Rattle.attr_legal.specs.Tally.{excess, hit, hits, reads, tally, together}
 use Rattle.attr_legal.specs.Target.{target}
@@ -114,3 +117,76 @@ module _ (v : View) (of : Key → ℕ) (rest : Act) (e : Term) (input : ℕ) whe
   some_assigned (Unary op y) x taken more write r is i k w m q = absurd cc
   some_assigned (Binary op y z) x taken more write r is i k w m q = absurd cc
   some_assigned (Choose c y z) x taken more write r is i k w m q = absurd cc
+
+-- what is read in an expression
+pub taken_is : (w : Event → ℕ) (x : Term) (input r : ℕ) → input ≡ w Reads → r ≡ reads 0 input x → r ≡ tally w (term_shape x)
+taken_is w x input r i is = is ∙ ap (λ y. reads 0 y x) i ∙ reads_tally w x
+
+-- the action that a name is
+pub argument_tally : (t : Table) (scope : written.Scope) (w : Event → ℕ) (name : Text) (o : Option Argument) (r : ℕ) → lookup (text_eq name) scope ≡ o → r ≡ tally w (act_shape (action_of o)) → r ≡ tally w (act_shape (action_of (lookup (text_eq name) scope)))
+argument_tally t scope w name o r is e = e ∙ ap (λ x. tally w (act_shape (action_of x))) (sym is)
+
+-- the action of a rule
+pub whole_action : (t : Table) (rule : Rule) (n j : ℕ) (d : Derivation) (ps : List ℕ) (fs : List ℤ) (ks : List ℕ) (ys zs : List ℤ) (x : Derivation) (a : Ask) (b : Block) (r : ℕ) → (m : (args : Arguments) × (d ≡ Compose rule args) × WalksAll t rule.pars n args ps fs ks ys)
+    → rule.action ≡ b → r ≡ weight t m.0 j zs x a b → r ≡ tally (counts t zs x a) (act_shape (written.written t j d).action)
+whole_action t rule n j d ps fs ks ys zs x a b r m is e = e ∙ ap (weight t m.0 j zs x a) (sym is) ∙ ap (λ y. tally (counts t zs x a) (act_shape (written.written t j y).action)) (sym m.1)
+
+pub sound_action : (t : Table) (name : Text) (rule : Rule) (n limit j : ℕ) (d : Derivation) (ps : List ℕ) (fs : List ℤ) (ks : List ℕ) (ys zs : List ℤ) (x : Derivation) (a : Ask) (b : Block) → Walks t name limit d ps fs ks ys → (m : (args : Arguments) × (d ≡ Compose rule args) × WalksAll t rule.pars n args ps fs ks ys)
+    → Alone t j zs fs → Acting t zs x a → rule.action ≡ b → Each (SoundIn t rule m.0 j zs) b
+sound_action t name rule n limit j d ps fs ks ys zs x a b w m s g is =
+    subst (Each (SoundIn t rule m.0 j zs)) is (g.actions name rule m.0 j (subst (IsDerivation t name) m.1 w.is) (stand_drop (fields_of m.0) zs ys j (s.left_are ∙ m.2.fields_are)))
+
+-- a statement by its kind
+module _ (t : Table) (args : Arguments) (n : ℕ) (zs : List ℤ) (x : Derivation) (a : Ask) (rule : Rule) where
+  abbrev pub P : Formula → Type 0
+  P = SoundIn t rule args n zs
+
+  abbrev pub V : Block → ℕ
+  V = weight t args n zs x a
+
+  abbrev pub T : Formula → ℕ
+  T e = tally (counts t zs x a) (term_shape (term t (arguments t n args) e))
+
+  pub assign_case : (b rest : Block) (name : Name) (i : Index) (at semicolon : ℕ) (e : Formula) (r : ℕ) → b ≡ block.Assign name i at e semicolon rest → Each P b
+      → (EachIndex P i → tally (counts t zs x a) (act_shape (assigned (written.reference t (arguments t n args) name.text (index_term t (arguments t n args) i)) (term t (arguments t n args) e) (act t (arguments t n args) rest))) ≡ together r (V rest)) → Each P rest × (V b ≡ together r (V rest))
+  assign_case b rest name i at semicolon e r is each k = let h = subst (Each P) is each in (h.2, ap V is ∙ k h.0)
+
+  pub part_case : (b rest : Block) (name : Name) (dot at semicolon : ℕ) (r : ℕ) → b ≡ block.Part name dot at semicolon rest → Each P b
+      → r ≡ tally (counts t zs x a) (act_shape (action_of (lookup (text_eq name.text) (arguments t n args)))) → Each P rest × (V b ≡ together r (V rest))
+  part_case b rest name dot at semicolon r is each k =
+      let h = subst (Each P) is each in (
+        h,
+        ap V is ∙ followed_tally (counts t zs x a) (counts_low t zs x a) (action_of (lookup (text_eq name.text) (arguments t n args))) (act t (arguments t n args) rest) ∙ ap (λ m. together m (V rest)) (sym k),
+      )
+
+  pub halt_case : (b rest : Block) (at p q semicolon : ℕ) (e : Formula) (taken halt r : ℕ) → b ≡ block.Halt at p e q semicolon rest → Each P b → taken ≡ T e → halt ≡ weighed t zs x a key.Halt → r ≡ together taken halt → Each P rest × (V b ≡ together r (V rest))
+  halt_case b rest at p q semicolon e taken halt r is each k m o =
+      let h = subst (Each P) is each in (
+        h.1,
+        ap V is ∙ ap (λ z. together z (V rest)) (ap (λ z. together z (weighed t zs x a key.Halt)) (sym k) ∙ ap (together taken) (sym m) ∙ sym o),
+      )
+
+  if_sum : (c y r taken some : ℕ) (z : ℕ) → taken ≡ c → some ≡ y → r ≡ together taken some → together (together c (max y 0)) z ≡ together r z
+  if_sum c y r taken some z e f g = omega (arith, e, f, g)
+
+  pub if_case : (b rest xs : Block) (at then_at end semicolon : ℕ) (c : Formula) (taken some r : ℕ) → b ≡ block.If at c then_at xs end semicolon rest → Each P b → taken ≡ T c → (Each P xs → some ≡ V xs) → r ≡ together taken some → Each P rest × (V b ≡ together r (V rest))
+  if_case b rest xs at then_at end semicolon c taken some r is each k m o =
+      let h = subst (Each P) is each in (h.2, ap V is ∙ if_sum (T c) (V xs) r taken some (V rest) k (m h.1) o)
+
+  else_sum : (c y w r taken some others : ℕ) (z g : ℕ) → taken ≡ c → some ≡ y → others ≡ w → g ≡ max some others → r ≡ together taken g → together (together c (max y w)) z ≡ together r z
+  else_sum c y w r taken some others z g e f h i j = omega (arith, e, f, h, i, j)
+
+  pub else_case : (b rest xs ys : Block) (at then_at else_at end semicolon : ℕ) (c : Formula) (taken some others g r : ℕ) → b ≡ block.IfElse at c then_at xs else_at ys end semicolon rest → Each P b → taken ≡ T c → (Each P xs → some ≡ V xs) → (Each P ys → others ≡ V ys) → g ≡ max some others → r ≡ together taken g
+      → Each P rest × (V b ≡ together r (V rest))
+  else_case b rest xs ys at then_at else_at end semicolon c taken some others g r is each k m o i j =
+      let h = subst (Each P) is each in (h.3, ap V is ∙ else_sum (T c) (V xs) (V ys) r taken some others (V rest) g k (m h.1) (o h.2) i j)
+
+  -- statement after statement
+  pub first_sum : (b : Block) → together 0 (V b) ≡ V b
+  first_sum b = let l = counts_low t zs x a (act_shape (act t (arguments t n args) b)) in omega (arith, l)
+
+  pub next_sum : (all b rest : Block) (sum more r : ℕ) → together sum (V b) ≡ V all → V b ≡ together more (V rest) → r ≡ together sum more → together r (V rest) ≡ V all
+  next_sum all b rest sum more r h k is = ap (λ z. together z (V rest)) is ∙ together_assoc sum more (V rest) ∙ ap (together sum) (sym k) ∙ h
+
+  pub last_sum : (all : Block) (sum : ℕ) → sum ≤ 2 → together sum 0 ≡ V all → sum ≡ V all
+  last_sum all sum low h = let e : sum ≡ together sum 0 = omega (arith, low) in e ∙ h

@@ -4,8 +4,10 @@
 mod act;
 mod key;
 mod laws;
+mod legality;
 mod number;
 mod reads;
 mod target;
 
 pub use laws::lawful_by_tallies;
+pub use legality::legal;
