@@ -1,5 +1,5 @@
 -- The storages and transitories of a table are those among its items.
-use Rattle.std.proofs.Common.{ℕ, ◌+◌, List, [], ◌∷◌, ◌++◌, ◌≡◌, refl, sym, ◌∙◌, ap, arith, Bool, true, false, length}
+use Rattle.std.proofs.Common.{◌+◌, List, [], ◌∷◌, ◌++◌, ◌≡◌, refl, ◌∙◌, ap, arith, Bool, true, false, length}
 use Rattle.std.specs.Prelude.{filter, if◌then◌else◌}
 use Rattle.nml_tree.specs.declared.tree.PortWord.{PortWord}
 use Rattle.nml_tree.specs.declared.tree.PortWord.TheVariants as port

@@ -1,7 +1,6 @@
 -- How deep statements stand in actions.
-use Rattle.std.proofs.Common.{ℕ, zero, suc, ◌+◌, ◌-◌, ◌*◌, ◌≤◌, ◌<◌, max, List, [], ◌∷◌, map, Option, ◌≡◌, refl, sym, ◌∙◌, ap, subst, Some, None, Bool, true, false, cond, arith, suc-mul, drop}
+use Rattle.std.proofs.Common.{ℕ, zero, suc, ◌+◌, ◌-◌, ◌*◌, ◌≤◌, ◌<◌, max, List, [], ◌∷◌, Option, ◌≡◌, refl, sym, ◌∙◌, ap, subst, Some, None, Bool, true, false, cond, arith, suc-mul, drop}
 use Rattle.std.proofs.Common.{length, get_or}
-use Rattle.std.specs.Map.{lookup}
 use Rattle.nk_base.specs.Text.{text_eq}
 use Rattle.nml_tree.specs.declared.expression.Expr.{Expr}
 use Rattle.nml_tree.specs.declared.statement.Stmt.{Stmt}

@@ -1,5 +1,5 @@
 -- What an expression reads, by its nodes and by a name.
-use Rattle.std.proofs.Common.{ℕ, zero, suc, ◌+◌, max, List, [], ◌∷◌, ◌≡◌, ℤ, drop, refl, sym, ◌∙◌, ap, Some, None, Option}
+use Rattle.std.proofs.Common.{ℕ, zero, suc, max, List, ◌∷◌, ◌≡◌, ℤ, drop, refl, sym, ◌∙◌, ap, Some, None, Option}
 use Rattle.std.specs.Prelude.{pos}
 use Rattle.std.specs.Map.{lookup}
 use Rattle.nk_base.specs.Text.{text_eq}

@@ -1,13 +1,12 @@
 -- No two events that meet clash exactly where none is met twice on a path.
-use Rattle.std.proofs.Common.{ℕ, zero, suc, ◌+◌, ◌≤◌, ◌<◌, min, max, List, [], ◌∷◌, ◌++◌, ◌≡◌, ◌⊎◌, inl, inr, refl, sym, ◌∙◌, ap, subst, arith, Bool, true, false, Some, None, Option}
+use Rattle.std.proofs.Common.{ℕ, zero, suc, ◌≤◌, List, [], ◌∷◌, ◌++◌, ◌≡◌, ◌⊎◌, inl, inr, refl, sym, ◌∙◌, subst, arith, Bool, true, false, Some, None, Option}
 use Rattle.std.specs.Prelude.{◌&&◌, ◌==◌, not, nat_le, if◌then◌else◌, unsigned_abs}
 use Rattle.std.proofs.lemmas.Bool.{eqb-true, eq-eqb, leb-true, le-leb}
-use Rattle.nml_tree.specs.Act.{Term}
 use Rattle.nml_tree.specs.Legal.{Event, WritesCell, WritesTrn, Puts, Halts, Reads, clash, is_constant}
 use Rattle.nml_tree.specs.Value.{View, value}
 use Rattle.attr_eval.specs.Lawful.{Shape, Nothing, Once, Then, Either, events, apart, all_apart, is_lawful}
 use Rattle.attr_legal.specs.Key.{key_of, meets, is_at}
-use Rattle.attr_legal.specs.Tally.{together, tally, hit, hits, excess, checks}
+use Rattle.attr_legal.specs.Tally.{tally, hits, excess, checks}
 use Rattle.attr_legal.specs.declared.key.Key.{Key}
 use Rattle.attr_legal.specs.declared.key.Key.TheVariants as key
 
@@ -254,8 +253,8 @@ module _ (v : View) where
         | inr some ↦ elim (none_or_some (tally (hits v k) b)) [
           | inl none ↦ omega (arith, none, x)
           | inr also ↦ (let e = found (hits v k) a some in let f = found (hits v k) b also in
-            let n = all_each (events a) (events b) (right (is_lawful v a) _ (left _ (is_lawful v b) h)) e.0 f.0 e.1 f.1 in
-            let c = meet_clash v k e.0 f.0 (hit_true _ e.2) (hit_true _ f.2) in absurd cc)
+              let n = all_each (events a) (events b) (right (is_lawful v a) _ (left _ (is_lawful v b) h)) e.0 f.0 e.1 f.1 in
+              let c = meet_clash v k e.0 f.0 (hit_true _ e.2) (hit_true _ f.2) in absurd cc)
         ]
       ]
   lawful_low k (Either a b) h =
@@ -273,11 +272,11 @@ module _ (v : View) where
       (low_lawful a (λ e k. let t = h e (in_left (events a) (events b) e k) in omega (arith, t)))
       (each_all (events a) (events b) (λ e f k m. refuted (clash v e f) (λ c. elim (clash_meets v e f c) [
         | inl q ↦ (let t = h e (in_left (events a) (events b) e k) in
-          let x = counted (hits v (key_of v e)) a e k (true_hit _ (meets_self (key_of v e))) in
-          let y = counted (hits v (key_of v e)) b f m (true_hit _ q) in omega (arith, t, x, y))
+            let x = counted (hits v (key_of v e)) a e k (true_hit _ (meets_self (key_of v e))) in
+            let y = counted (hits v (key_of v e)) b f m (true_hit _ q) in omega (arith, t, x, y))
         | inr q ↦ (let t = h f (in_right (events a) (events b) f m) in
-          let x = counted (hits v (key_of v f)) a e k (true_hit _ q) in
-          let y = counted (hits v (key_of v f)) b f m (true_hit _ (meets_self (key_of v f))) in omega (arith, t, x, y))
+            let x = counted (hits v (key_of v f)) a e k (true_hit _ q) in
+            let y = counted (hits v (key_of v f)) b f m (true_hit _ (meets_self (key_of v f))) in omega (arith, t, x, y))
       ]))))
       (low_lawful b (λ e k. let t = h e (in_right (events a) (events b) e k) in omega (arith, t)))
   low_lawful (Either a b) h =

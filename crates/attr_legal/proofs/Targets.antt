@@ -1,6 +1,6 @@
 -- A place by the nodes of its expression, and by a name; an index.
-use Rattle.std.proofs.Common.{ℕ, zero, suc, ◌+◌, max, List, [], ◌∷◌, ◌≡◌, ℤ, refl, sym, ◌∙◌, ap, subst, Some, None, Option, Bool, true, false, arith}
-use Rattle.std.specs.Prelude.{◌==◌, ◌&&◌, unsigned_abs, if◌then◌else◌, unwrap_or}
+use Rattle.std.proofs.Common.{ℕ, max, List, ◌≡◌, ℤ, refl, sym, ◌∙◌, ap, Some, None, Option, Bool, true, false, arith}
+use Rattle.std.specs.Prelude.{◌==◌, ◌&&◌, unsigned_abs, if◌then◌else◌}
 use Rattle.std.specs.Map.{lookup}
 use Rattle.nk_base.specs.Text.{text_eq}
 use Rattle.nml_tree.specs.Formula.{Formula}
@@ -18,7 +18,6 @@ use Rattle.attr_legal.proofs.Tallies.{left, right, same_truth, both_true}
 use Rattle.attr_legal.specs.Key.{cell_at}
 use Rattle.attr_legal.specs.Tally.{together, reads}
 use Rattle.attr_legal.specs.Target.{index_of, number_unless, target}
-use Rattle.attr_legal.specs.declared.target.Index.{Index}
 use Rattle.attr_legal.specs.declared.target.Target.{Target}
 
 -- an expression is constant exactly where no look counts

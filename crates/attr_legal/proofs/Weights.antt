@@ -1,6 +1,6 @@
 -- How much statements count, by their kinds; an assignment by its place.
-use Rattle.std.proofs.Common.{ℕ, ◌+◌, ◌≤◌, min, max, List, [], ◌∷◌, ◌≡◌, ℤ, refl, sym, ◌∙◌, ap, subst, Some, None, Option, Bool, true, false, arith, drop}
-use Rattle.std.specs.Prelude.{nat_le, if◌then◌else◌, slice_get}
+use Rattle.std.proofs.Common.{ℕ, ◌≤◌, max, List, ◌≡◌, ℤ, refl, sym, ◌∙◌, ap, subst, Some, None, Option, Bool, true, false, arith}
+use Rattle.std.specs.Prelude.{nat_le, if◌then◌else◌}
 use Rattle.std.specs.Map.{lookup}
 use Rattle.nk_base.specs.Text.{text_eq}
 use Rattle.nml_tree.specs.Act.{Term, Act, Number, Field, Cell, Trn, Inp, Out, Unary, Binary, Choose, Done, SetCell, SetTrn, Put, Halt, When, followed, assigned}
@@ -9,7 +9,7 @@ use Rattle.nml_tree.specs.Block.{Block, Index}
 use Rattle.nml_tree.specs.declared.names.Name.{Name}
 use Rattle.nml_tree.specs.Derivation.{Derivation, Arguments, Compose, IsDerivation, fields_of}
 use Rattle.nml_tree.specs.Formula.{Formula}
-use Rattle.nml_tree.specs.Legal.{Event, Reads, Puts, Halts, WritesCell, WritesTrn}
+use Rattle.nml_tree.specs.Legal.{Event, Reads}
 use Rattle.nml_tree.specs.Table.{Text, Table, Rule}
 use Rattle.nml_tree.specs.Value.{View}
 use Rattle.nml_tree.specs.Written as written
@@ -22,7 +22,7 @@ use Rattle.attr_eval.specs.Walks.{Walks, WalksAll}
 use Rattle.attr_legal.proofs.Tallies.{low}
 use Rattle.attr_legal.specs.Asked.{Acting, SoundIn, counts, weighed, weight}
 use Rattle.attr_legal.specs.Key.{key_of, meets}
-use Rattle.attr_legal.specs.Tally.{excess, hit, hits, reads, tally, together}
+use Rattle.attr_legal.specs.Tally.{reads, tally, together}
 use Rattle.attr_legal.specs.Target.{target}
 use Rattle.attr_legal.specs.declared.act.Ask.{Ask}
 use Rattle.attr_legal.specs.declared.act.Ask.TheVariants as ask

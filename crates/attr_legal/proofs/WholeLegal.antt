@@ -1,5 +1,5 @@
 -- The whole derivation is legal exactly where no event counts in a check.
-use Rattle.std.proofs.Common.{◌≡◌, ℕ, ◌<◌, ℤ, List, refl, sym, ◌∙◌, ap, arith, Bool}
+use Rattle.std.proofs.Common.{◌≡◌, ℕ, ℤ, List, sym, ◌∙◌, ap}
 use Rattle.std.specs.Prelude.{◌==◌}
 use Rattle.nml_tree.specs.declared.tree.Desc.{Desc}
 use Rattle.nml_tree.specs.Derivation.{Derivation, fields}

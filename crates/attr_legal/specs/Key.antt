@@ -1,5 +1,5 @@
 -- What an event is, with the cell's number in place of its index.
-use Rattle.std.specs.Prelude.{ℕ, ◌==◌, unsigned_abs, Bool, true, false, ◌&&◌, if◌then◌else◌, Option, Some, None, unwrap_or}
+use Rattle.std.specs.Prelude.{ℕ, ◌==◌, unsigned_abs, Bool, true, false, ◌&&◌, if◌then◌else◌, Option, Some, None}
 use Rattle.attr_legal.specs.declared.key.Key.{Key}
 use Rattle.attr_legal.specs.declared.key.Key.TheVariants.{Cell, Trn, Put, Halt, Read}
 use Rattle.nml_tree.specs.Act.{Term}

@@ -1,5 +1,5 @@
 -- How often something happens on a path, at most: 2 stands for all above it.
-use Rattle.std.specs.Prelude.{ℕ, ◌+◌, min, max, nat_le, ◌==◌, Bool, if◌then◌else◌}
+use Rattle.std.specs.Prelude.{ℕ, ◌+◌, min, max, nat_le, if◌then◌else◌}
 use Rattle.attr_eval.specs.Lawful.{Shape, Nothing, Once, Then, Either}
 use Rattle.attr_legal.specs.Key.{key_of, meets}
 use Rattle.attr_legal.specs.declared.key.Key.{Key}

@@ -1,5 +1,5 @@
 -- What a place is that is assigned.
-use Rattle.std.specs.Prelude.{ℕ, ◌==◌, unsigned_abs, if◌then◌else◌, Option, Some, None}
+use Rattle.std.specs.Prelude.{ℕ, ◌==◌, if◌then◌else◌, Option, Some, None}
 use Rattle.attr_legal.specs.declared.key.Key.TheVariants as key
 use Rattle.attr_legal.specs.declared.target.Index.{Index}
 use Rattle.attr_legal.specs.declared.target.Target.{Target}

@@ -181,7 +181,15 @@ fn taken_by(
     ensures { (args : Arguments) (ks : List ℕ) (ys : List ℤ) (n : ℕ) (zs : List ℤ) (x : Derivation) → Here (entries [] items.now) (pars_of pars.now) limit args picks.now fields.now ks ys n zs x ask.entry → result ≡ tally (counts (entries [] items.now) zs x ask.entry) (term_shape (term (entries [] items.now) (arguments (entries [] items.now) n args) (formula e.now))) }
 {
     let input = weigh(items, ask, Key::Read);
-    reads(items, pars, e, picks, fields, limit, Weights { look: 0, input })
+    reads(
+        items,
+        pars,
+        e,
+        picks,
+        fields,
+        limit,
+        Weights { look: 0, input },
+    )
 }
 
 /// Of an assignment.
@@ -204,7 +212,15 @@ fn assignment(
     match named_target(items, pars, name, index, picks, fields, limit, input) {
         None => 0,
         Some(target) => {
-            let taken = reads(items, pars, e, picks, fields, limit, Weights { look: 0, input });
+            let taken = reads(
+                items,
+                pars,
+                e,
+                picks,
+                fields,
+                limit,
+                Weights { look: 0, input },
+            );
             let write = weigh(items, ask, target.key);
             together(target.reads, together(taken, write))
         }

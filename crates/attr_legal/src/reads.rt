@@ -65,11 +65,29 @@ pub fn reads(
         Node::Numeral(_) => 0,
         Node::Truth(_) => 0,
         Node::Named(name) => {
-            named_reads(items, pars, name.text.as_bytes(), 0, picks, fields, limit, w)
+            named_reads(
+                items,
+                pars,
+                name.text.as_bytes(),
+                0,
+                picks,
+                fields,
+                limit,
+                w,
+            )
         }
         Node::Indexed(name, i) => {
             let index = reads(items, pars, i, picks, fields, limit, w);
-            named_reads(items, pars, name.text.as_bytes(), index, picks, fields, limit, w)
+            named_reads(
+                items,
+                pars,
+                name.text.as_bytes(),
+                index,
+                picks,
+                fields,
+                limit,
+                w,
+            )
         }
         Node::Paren(x) => reads(items, pars, x, picks, fields, limit, w),
         Node::Int(_, x) => reads(items, pars, x, picks, fields, limit, w),

@@ -46,9 +46,25 @@ pub fn index_of(
 ) -> Index
     ensures { (args : Arguments) (ks : List ℕ) (ys : List ℤ) (n : ℕ) (zs : List ℤ) (rule : Rule) → WalksAll (entries [] items.now) (pars_of pars.now) limit args picks.now fields.now ks ys → Alone (entries [] items.now) n zs fields.now → Everywhere (Sound (rule_scope (entries [] items.now) rule) (arguments (entries [] items.now) n args) (alone zs)) (formula e.now) → result ≡ spec.index_of (alone zs) input (term (entries [] items.now) (arguments (entries [] items.now) n args) (formula e.now)) }
 {
-    let looks = reads(items, pars, e, picks, fields, limit, Weights { look: 1, input: 1 });
+    let looks = reads(
+        items,
+        pars,
+        e,
+        picks,
+        fields,
+        limit,
+        Weights { look: 1, input: 1 },
+    );
     let z = worth(items, pars, e, picks, fields, limit);
-    let taken = reads(items, pars, e, picks, fields, limit, Weights { look: 0, input });
+    let taken = reads(
+        items,
+        pars,
+        e,
+        picks,
+        fields,
+        limit,
+        Weights { look: 0, input },
+    );
     Index {
         at: number_unless(looks, z),
         reads: taken,
@@ -59,7 +75,11 @@ pub fn index_of(
 fn number_unless(looks: u8, z: i128) -> Option<u128>
     ensures { result ≡ spec.number_unless looks (unsigned_abs z) }
 {
-    if looks == 0 { Some(z.unsigned_abs()) } else { None }
+    if looks == 0 {
+        Some(z.unsigned_abs())
+    } else {
+        None
+    }
 }
 
 /// What is known of the index of a place; one that isn't written is 0.

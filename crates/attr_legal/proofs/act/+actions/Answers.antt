@@ -1,7 +1,6 @@
-use Rattle.std.proofs.Common.{rules, ◌≡◌, ◌∙◌, ◌<◌, ◌≤◌, ◌+◌, ◌*◌, [], ◌++◌, drop, length, refl, sym, ap, subst, arith}
+use Rattle.std.proofs.Common.{◌≡◌, ◌∙◌, ◌<◌, ◌≤◌, ◌+◌, ◌*◌, [], drop, length, refl, sym, ap, subst, arith}
 use Rattle.nml_tree.specs.Block.{Done, If, IfElse, action_block, block, index, stmt}
 use Rattle.nml_tree.specs.Depth.{block_depth}
-use Rattle.nml_tree.specs.Derivation.{fields_of}
 use Rattle.nml_tree.specs.Formula.{formula}
 use Rattle.nml_tree.specs.Table.{entries}
 use Rattle.nml_tree.specs.Written.{arguments, index_term, reference, term, written}
@@ -15,7 +14,6 @@ use Rattle.attr_eval.proofs.Values.{part_named, field_named, none_named}
 use Rattle.attr_legal.specs.Asked.{Acting, SoundIn, asked_measure, counts, weighed, weight}
 use Rattle.attr_legal.specs.Nested.{deepest_action}
 use Rattle.attr_legal.specs.Tally.{excess, tally, together}
-use Rattle.attr_legal.specs.declared.key.Key.TheVariants as key
 use Rattle.attr_legal.proofs.Nesting.{within_deepest, less_nested, some_depth, then_depth, else_depth, drop_at, drop_end, depth_among}
 use Rattle.attr_legal.proofs.Weights.{counts_low, none_assigned, some_assigned, taken_is, argument_tally, whole_action, sound_action, assign_case, part_case, halt_case, if_case, else_case, first_sum, next_sum, last_sum}
 use Rattle.attr_legal.proofs.act.+actions.Goals as goal
@@ -182,11 +180,10 @@ statements-loop-one-preserved t c = λ args ks ys n zs x rule h each.
     let inv = c.loop-one.invariant args ks ys n zs x rule h each in
     let e = drop_at c.args.list.now c.loop-one.one-index c.one-item.result c.loop-one-test.true c.one-item.is in
     let s = c.statement-more.ensures args ks ys n zs x rule (block (drop (c.loop-one.one-index + 1) c.args.list.now)) h (subst (Each (SoundIn (entries [] c.args.items.now) rule args n zs)) e inv.0) in
-    let low : c.together-sum.result ≤ 2 = rw c.together-sum.ensures (omega arith) in
-    (
+    let low : c.together-sum.result ≤ 2 = rw c.together-sum.ensures (omega arith) in (
       s.0,
       next_sum _ args n zs x c.args.ask rule (block c.args.list.now) (block (drop c.loop-one.one-index c.args.list.now)) (block (drop (c.loop-one.one-index + 1) c.args.list.now)) c.loop-one.sum c.statement-more.result c.together-sum.result inv.1
-      (ap (weight (entries [] c.args.items.now) args n zs x c.args.ask) e ∙ s.1) c.together-sum.ensures,
+          (ap (weight (entries [] c.args.items.now) args n zs x c.args.ask) e ∙ s.1) c.together-sum.ensures,
       low,
     )
 

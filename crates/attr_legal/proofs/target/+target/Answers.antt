@@ -1,7 +1,6 @@
-use Rattle.std.proofs.Common.{rules, ◌≡◌, ◌∙◌, ◌<◌, ◌≤◌, ◌+◌, ◌*◌, [], ◌++◌, refl, sym, ap, subst, arith}
+use Rattle.std.proofs.Common.{◌≡◌, ◌∙◌, ◌<◌, ◌≤◌, ◌+◌, ◌*◌, [], refl, sym, ap, subst, arith}
 use Rattle.std.specs.Prelude.{option_map}
 use Rattle.nml_tree.specs.Depth.{depth}
-use Rattle.nml_tree.specs.Derivation.{fields_of}
 use Rattle.nml_tree.specs.Formula.{formula}
 use Rattle.nml_tree.specs.Table.{entries}
 use Rattle.nml_tree.specs.Worth.{rule_scope}

@@ -1,4 +1,4 @@
-use Rattle.std.proofs.Common.{◌≡◌, ◌∙◌, [], sym, ap, subst}
+use Rattle.std.proofs.Common.{◌∙◌, [], sym, ap, subst}
 use Rattle.nml_tree.specs.Block.{index}
 use Rattle.nml_tree.specs.Table.{entries}
 use Rattle.nml_tree.specs.Worth.{rule_scope}
