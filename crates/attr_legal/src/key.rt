@@ -16,8 +16,8 @@ pub enum Key {
     Read,
 }
 
-/// Whether the second is one and the same as the first, which is a write of cell 0 where its cell isn't known; a write of a cell that isn't
-/// known may be one of each cell.
+/// Whether the second may be one and the same as the first, of which cell 0 is asked for where its cell isn't known: so two events clash
+/// exactly where the one meets the other, or the other the one.
 pub fn meets(a: Key, b: Key) -> bool
     ensures { result ≡ spec.meets a b }
 {
