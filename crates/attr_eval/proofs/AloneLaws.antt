@@ -26,7 +26,7 @@ no_cell : (storage n : ℕ) → cell [] storage n ≡ pos 0
 no_cell zero n = no_number n
 no_cell (suc storage) n = no_number n
 
-each_of : (zs : List ℤ) (d : Declared) → IsOfType (alone zs) d
+pub each_of : (zs : List ℤ) (d : Declared) → IsOfType (alone zs) d
 each_of zs (Declared.Constant z) = tt
 each_of zs (Declared.TypeName ty) = tt
 each_of zs (Declared.Storage n k ty) = λ i. subst (InRange ty) (sym (no_cell n i)) (zero_fits ty)

@@ -29,7 +29,7 @@ abbrev pub AreLess : Node → ℕ → Type 0
 AreLess (node.Numeral k) m = Unit {0}
 AreLess (node.Truth b) m = Unit {0}
 AreLess (node.Named n) m = 0 < m
-AreLess (node.Indexed n i) m = 0 < m
+AreLess (node.Indexed n i) m = depth (formula i.now) < m
 AreLess (node.Paren x) m = depth (formula x.now) < m
 AreLess (node.Int n x) m = depth (formula x.now) < m
 AreLess (node.Card n x) m = depth (formula x.now) < m

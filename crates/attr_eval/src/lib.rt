@@ -13,6 +13,9 @@ mod word;
 
 pub use laws::legal_by_pairs;
 pub use operate::{binary, unary};
+pub use shape::{Node, top};
+pub use skip::skip_pars;
 pub use text::syntax;
-pub use value::mode_value;
+pub use turn::{Made, Turn, first_par, first_turn, part_of};
+pub use value::{mode_value, worth};
 pub use word::image;

@@ -6,7 +6,7 @@ ghost use Rattle.nml_tree.specs.Formula.{formula};
 
 use nml_tree::{Bin, Expr, Name, Size};
 
-/// An expression's top, with what stands below it.
+/// An expression's top, with what stands below it. The form is this project's own.
 #[derive(Clone, Copy)]
 pub enum Node<'e> {
     Numeral(u64),
@@ -25,7 +25,7 @@ pub enum Node<'e> {
     Binary(Bin, &'e Expr, &'e Expr),
 }
 
-/// The node at the top. It takes no memory.
+/// The node at the top. It takes no memory. The rule is this project's own.
 #[tactic(auto, using(nml_tree::proofs::FormulaLaws::formula_laws))]
 pub fn top(e: &Expr) -> Node<'_>
     ensures is { IsNode result (formula e.now) }

@@ -36,7 +36,8 @@ pub fn skip<'a>(
     }
 }
 
-/// Behind the first `count` arguments. It takes no memory.
+/// Behind the first `count` arguments; what is answered where none stand in front is left open. It takes no memory. The rule is this
+/// project's own.
 #[cycle(skip)]
 pub fn skip_pars<'a>(
     items: &[Item],

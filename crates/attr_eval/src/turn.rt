@@ -10,7 +10,7 @@ use nk_base::Text;
 use nml_state::find;
 use nml_tree::{Attrs, Expr, Item, OrRule, Par, Pars, PortWord, TypeExpr};
 
-/// The parts of an and-rule: its parameters, the value of a mode, its attributes.
+/// The parts of an and-rule: its parameters, the value of a mode, its attributes. The form is this project's own.
 #[derive(Clone, Copy)]
 pub struct Made<'r> {
     pub pars: &'r Option<Pars>,
@@ -19,6 +19,8 @@ pub struct Made<'r> {
 }
 
 /// An alternative that is picked, and the picks behind it; or the and-rule itself; or there is no derivation with these picks.
+///
+/// The form is this project's own.
 #[derive(Clone, Copy)]
 pub enum Turn<'r, 'a> {
     Picked(&'r Text, &'a [u32]),
@@ -26,7 +28,7 @@ pub enum Turn<'r, 'a> {
     Nothing,
 }
 
-/// What a derivation of the rule of this name begins with. It takes no memory.
+/// What a derivation of the rule of this name begins with. It takes no memory. The rule is this project's own.
 pub fn first_turn<'r, 'a>(items: &'r [Item], name: &[u8], picks: &'a [u32]) -> Turn<'r, 'a>
     ensures { IsTurn (entries [] items.now) name.now picks.now result }
 {
@@ -99,7 +101,7 @@ pub fn par_count(pars: &Option<Pars>) -> usize
     }
 }
 
-/// The rule that a parameter's type names; `None` exactly where it names none.
+/// The rule that a parameter's type names; `None` exactly where it names none. It takes no memory. The rule is this project's own.
 pub fn part_of<'r>(items: &[Item], ty: &'r TypeExpr) -> Option<&'r Text>
     ensures { MatchOption result ((rule : spec.Text) → parameter_of (entries [] items.now) ty.now ≡ Some (spec.Parameter.Part rule) → ⊥) (λ rule. parameter_of (entries [] items.now) ty.now ≡ Some (spec.Parameter.Part rule.now)) }
 {
@@ -140,7 +142,7 @@ fn is_rule(item: &Item) -> bool
     }
 }
 
-/// The first parameter of the name, and its number; `None` exactly where there is none.
+/// The first parameter of the name, and its number; `None` exactly where there is none. It takes no memory. The rule is this project's own.
 pub fn first_par<'r>(pars: &'r Option<Pars>, name: &[u8]) -> Option<(usize, &'r Par)>
     ensures { MatchOption result (Other name.now (pars_of pars.now) (length (pars_of pars.now))) (λ x. IsFirst name.now (pars_of pars.now) x.0 x.1.now) }
 {

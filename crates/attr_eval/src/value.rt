@@ -58,8 +58,11 @@ fn value(items: &[Item], name: &[u8], picks: &[u32], fields: &[i128], limit: usi
 }
 
 /// The value of an expression of a rule with these parameters, whose arguments stand in front.
+///
+/// There are the fields and nothing else to read. What is answered is left open where no arguments stand in front, or where 128 bits don't
+/// hold the values in the expression. It takes no memory. The rule is this project's own.
 #[cycle(value)]
-fn worth(
+pub fn worth(
     items: &[Item],
     pars: &Option<Pars>,
     e: &Expr,
