@@ -6,5 +6,8 @@ pub mod Calls
 pub mod Globals
 pub mod Parameters
 pub mod Statements
+pub mod Acts
+pub mod ReadingStatements
+pub mod SampleStatements
 pub mod Sample
 pub mod SampleParts

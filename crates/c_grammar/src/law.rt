@@ -5,7 +5,7 @@ ghost use Rattle.c_tree.specs.declared.names.Name.{Name};
 ghost use Rattle.c_tree.specs.Formula.{Formula};
 ghost use Rattle.c_tree.specs.Statement.{Statement};
 ghost use Rattle.c_tree.specs.Level.{IsLeveled, unary_level, ends_open};
-ghost use Rattle.c_tree.specs.Spell.{formula_spelling, statement_spelling, declaration_spelling};
+ghost use Rattle.c_tree.specs.Spell.{formula_spelling, statement_spelling};
 ghost use Rattle.c_tree.specs.SpellGlobals.{gvar_spelling};
 ghost use Rattle.c_grammar.specs.Reading.{climb, IsEnd, IsGood};
 ghost use Rattle.c_grammar.specs.Declarations.{declaration};
@@ -13,7 +13,7 @@ ghost use Rattle.c_grammar.specs.Calls.{called, inside_call, IsCallOf};
 ghost use Rattle.c_grammar.specs.Globals.{global_variable, IsGlobalEnd};
 ghost use Rattle.c_grammar.specs.Parameters.{parameters, parameters_spelling};
 ghost use Rattle.c_grammar.specs.Until.{tailed_spelling, tailed_good};
-ghost use Rattle.c_grammar.specs.Statements.{IsGoodStatement, IsStatementEnd, BodyPart, part_spelling, IsGoodPart, IsPartEnd, IsGoodBody, closed_spelling, closed_body, IsGoodDeclaration};
+ghost use Rattle.c_grammar.specs.Statements.{IsGoodStatement, IsStatementEnd, BodyPart, part_spelling, IsGoodPart, IsPartEnd, IsGoodBody, closed_spelling, closed_body, IsDeclarationOf, inside_declaration};
 
 /// A law: no symbols spell two expressions.
 pub fn one_expression()
@@ -38,9 +38,9 @@ pub fn read_body()
     ensures { (room : ℕ) (reads : Reading BodyPart) → IsReading part_spelling (IsGoodPart room) IsPartEnd reads → IsReading closed_spelling (IsGoodBody room) Anywhere (closed_body reads) }
 {}
 
-/// A law: declarations of local variables, whose initial values are no deeper than `room`, are read lawfully.
+/// A law: what stands behind the word of a declaration of local variables, whose initial values are no deeper than `room`, is read lawfully.
 pub fn read_declaration()
-    ensures { (room : ℕ) → 1 ≤ room → IsReading declaration_spelling (IsGoodDeclaration (suc (suc room))) Anywhere (declaration room) }
+    ensures { (room at : ℕ) → IsReading inside_declaration (IsDeclarationOf room at) Anywhere (declaration room at) }
 {}
 
 /// A law: a global variable is read lawfully, with its initial values.
