@@ -8,6 +8,8 @@ pub mod Parameters
 pub mod Statements
 pub mod Acts
 pub mod ReadingStatements
+pub mod Programs
 pub mod SampleStatements
+pub mod SamplePrograms
 pub mod Sample
 pub mod SampleParts

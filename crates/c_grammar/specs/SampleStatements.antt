@@ -67,8 +67,11 @@ at_least_once = refl
 pub body_read : block_body 6 20
     (Fixed 2 (codes "int") ∷ NamedSymbol 6 (codes "a") ∷ Fixed 7 (codes ";") ∷ NamedSymbol 9 (codes "a") ∷ Fixed 10 (codes "(") ∷ Fixed 11 (codes ")") ∷ Fixed 12 (codes ";")
     ∷ Fixed 14 (codes "}") ∷ [])
-    ≡ Found (Declare (record { word = type_word.Int 2; first = Scalar (name_at 6 (codes "a")); rest = []; semicolon = 7 })
-    (Then (Simply (Invoke (Called (name_at 9 (codes "a")) 10 11)) 12) Nothing), 14) []
+    ≡ Found (
+      Declare (record { word = type_word.Int 2; first = Scalar (name_at 6 (codes "a")); rest = []; semicolon = 7 })
+          (Then (Simply (Invoke (Called (name_at 9 (codes "a")) 10 11)) 12) Nothing),
+      14,
+    ) []
 unfolding statement block_body
 body_read = refl
 
