@@ -15,3 +15,5 @@ pub mod LawfulDeclarations
 pub mod LawfulGlobals
 pub mod LawfulParameters
 pub mod LawfulCalls
+pub mod Ended
+pub mod LawfulActs

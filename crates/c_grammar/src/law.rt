@@ -5,11 +5,12 @@ ghost use Rattle.c_tree.specs.declared.names.Name.{Name};
 ghost use Rattle.c_tree.specs.Formula.{Formula};
 ghost use Rattle.c_tree.specs.Statement.{Statement};
 ghost use Rattle.c_tree.specs.Level.{IsLeveled, unary_level, ends_open};
-ghost use Rattle.c_tree.specs.Spell.{formula_spelling, statement_spelling};
+ghost use Rattle.c_tree.specs.Spell.{formula_spelling, act_spelling, statement_spelling};
 ghost use Rattle.c_tree.specs.SpellGlobals.{gvar_spelling};
 ghost use Rattle.c_grammar.specs.Reading.{climb, IsEnd, IsGood};
 ghost use Rattle.c_grammar.specs.Declarations.{declaration};
 ghost use Rattle.c_grammar.specs.Calls.{called, inside_call, IsCallOf};
+ghost use Rattle.c_grammar.specs.Acts.{act, act_behind, IsGoodAct, IsActEnd};
 ghost use Rattle.c_grammar.specs.Globals.{global_variable, IsGlobalEnd};
 ghost use Rattle.c_grammar.specs.Parameters.{parameters, parameters_spelling};
 ghost use Rattle.c_grammar.specs.Until.{tailed_spelling, tailed_good};
@@ -56,4 +57,9 @@ pub fn read_parameters()
 /// A law: what stands behind the name and the parenthesis of a call, whose arguments are no deeper than `room`, is read lawfully.
 pub fn read_call()
     ensures { (room : ℕ) → 1 ≤ room → (x : Name) (p : ℕ) → IsReading inside_call (IsCallOf room x p) Anywhere (called room x p) }
+{}
+
+/// A law: simple statements, with at most `room` nodes below them, are read lawfully.
+pub fn read_act()
+    ensures { (room : ℕ) → IsReading act_spelling (IsGoodAct room) IsActEnd (act room) }
 {}
