@@ -26,6 +26,15 @@ ends_law spelled good ends others reads to from l = record {
   fits = l.fits;
 }
 
+-- a thing that may stand before the mark, and the mark
+pub marked_law : {A : Type 0} (text : List ℕ) (spelled : A → List Symbol) (good : A → Type 0) (ends : A → List Symbol → Type 0) (reads : Reading A)
+    → IsReading spelled good ends reads → ((x : A) (at : ℕ) (r : List Symbol) → good x → ends x (Symbol.Fixed at text ∷ r))
+    → IsReading (λ (p : A × ℕ). spelled p.0 ++ fixed p.1 text) (λ (p : A × ℕ). good p.0) Anywhere (reads >>> sign text)
+marked_law {A = A} text spelled good ends reads l closed =
+    other_law (λ (p : A × ℕ). spelled p.0 ++ fixed p.1 text) (λ (p : A × ℕ). good p.0 × Any p.1) (λ (p : A × ℕ). good p.0) Anywhere Anywhere (reads >>> sign text)
+    (λ p h. h.0) (λ p h. (h, tt)) (λ p r e. e) (λ p r e. e)
+    (then_law spelled good ends reads (λ at. fixed at text) Any Anywhere (sign text) l (sign_law text) (λ x at r g h e. closed x at r g))
+
 -- no thing begins with the mark, and each may stand before it
 module _ {A : Type 0} (text : List ℕ) (spelled : A → List Symbol) (good : A → Type 0) (ends : A → List Symbol → Type 0) (reads : Reading A)
     (l : IsReading spelled good ends reads) (unmarked : (x : A) (r : List Symbol) → good x → behind text (spelled x ++ r) ≡ None)
@@ -34,20 +43,14 @@ module _ {A : Type 0} (text : List ℕ) (spelled : A → List Symbol) (good : A 
     abbrev some_of : A × ℕ → Option A × ℕ
     some_of (x, at) = (Some x, at)
 
-    -- a thing, and the mark
-    some_law : IsReading (λ (p : A × ℕ). spelled p.0 ++ fixed p.1 text) (λ (p : A × ℕ). good p.0) Anywhere (reads >>> sign text)
-    some_law =
-        other_law (λ (p : A × ℕ). spelled p.0 ++ fixed p.1 text) (λ (p : A × ℕ). good p.0 × Any p.1) (λ (p : A × ℕ). good p.0) Anywhere Anywhere (reads >>> sign text)
-        (λ p h. h.0) (λ p h. (h, tt)) (λ p r e. e) (λ p r e. e)
-        (then_law spelled good ends reads (λ at. fixed at text) Any Anywhere (sign text) l (sign_law text) (λ x at r g h e. closed x at r g))
-
     -- so it is, or nothing
     pub ended_law : IsReading (ended_spelling text spelled) (ended_good good) Anywhere (ended text reads)
     ended_law =
         by_mark_law text (ended text reads) (made some_of (reads >>> sign text)) (λ at. given (None, at)) (λ n ss i. ap (ended_from text reads n ss) i)
         (λ n ss at rest i. ap (ended_from text reads n ss) i)
         (ended_spelling text spelled) (ended_good good) Anywhere (IsMade (λ (p : A × ℕ). good p.0) some_of) Anywhere (λ at y. y ≡ (None, at))
-        (made_law some_of (λ (p : A × ℕ). spelled p.0 ++ fixed p.1 text) (λ (p : A × ℕ). good p.0) (reads >>> sign text) (ended_spelling text spelled) Anywhere (λ p. refl) some_law)
+        (made_law some_of (λ (p : A × ℕ). spelled p.0 ++ fixed p.1 text) (λ (p : A × ℕ). good p.0) (reads >>> sign text) (ended_spelling text spelled) Anywhere (λ p. refl)
+        (marked_law text spelled good ends reads l closed))
         (λ at. record {
           reading = given_law (λ y. beyond (ended_spelling text spelled y)) (None, at) refl;
           front = λ y h. subst (λ u. ended_spelling text spelled u ≡ Symbol.Fixed at text ∷ beyond (ended_spelling text spelled u)) (sym h) refl;

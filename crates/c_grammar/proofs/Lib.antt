@@ -17,3 +17,4 @@ pub mod LawfulParameters
 pub mod LawfulCalls
 pub mod Ended
 pub mod LawfulActs
+pub mod LawfulParts

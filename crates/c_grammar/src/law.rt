@@ -11,10 +11,11 @@ ghost use Rattle.c_grammar.specs.Reading.{climb, IsEnd, IsGood};
 ghost use Rattle.c_grammar.specs.Declarations.{declaration};
 ghost use Rattle.c_grammar.specs.Calls.{called, inside_call, IsCallOf};
 ghost use Rattle.c_grammar.specs.Acts.{act, act_behind, IsGoodAct, IsActEnd};
+ghost use Rattle.c_grammar.specs.ReadingStatements.{body};
 ghost use Rattle.c_grammar.specs.Globals.{global_variable, IsGlobalEnd};
 ghost use Rattle.c_grammar.specs.Parameters.{parameters, parameters_spelling};
 ghost use Rattle.c_grammar.specs.Until.{tailed_spelling, tailed_good};
-ghost use Rattle.c_grammar.specs.Statements.{IsGoodStatement, IsStatementEnd, BodyPart, part_spelling, IsGoodPart, IsPartEnd, IsGoodBody, closed_spelling, closed_body, IsDeclarationOf, inside_declaration};
+ghost use Rattle.c_grammar.specs.Statements.{IsGoodStatement, IsStatementEnd, IsGoodBody, closed_spelling, IsDeclarationOf, inside_declaration};
 
 /// A law: no symbols spell two expressions.
 pub fn one_expression()
@@ -34,9 +35,9 @@ pub fn read_else()
     ensures { (room : ℕ) (reads : Reading Statement) → IsReading statement_spelling (IsGoodStatement room) IsStatementEnd reads → IsReading (tailed_spelling (codes "else") statement_spelling statement_spelling) (tailed_good ends_open (IsGoodStatement room) (IsGoodStatement room)) (λ (p : Statement × Option (ℕ × Statement)) r. optional_ends (codes "else") IsStatementEnd p.1 r) (reads >>> optional (codes "else") reads) }
 {}
 
-/// A law: where the declarations and statements of a block are read lawfully, what stands between its braces is, with the second one.
+/// A law: where statements no deeper than `room` are read lawfully, what stands between the braces of a block is, with the second one.
 pub fn read_body()
-    ensures { (room : ℕ) (reads : Reading BodyPart) → IsReading part_spelling (IsGoodPart room) IsPartEnd reads → IsReading closed_spelling (IsGoodBody room) Anywhere (closed_body reads) }
+    ensures { (room : ℕ) (statements : Reading Statement) → (1 ≤ room → IsReading statement_spelling (IsGoodStatement room) IsStatementEnd statements) → IsReading closed_spelling (IsGoodBody room) Anywhere (body room statements) }
 {}
 
 /// A law: what stands behind the word of a declaration of local variables, whose initial values are no deeper than `room`, is read lawfully.
