@@ -18,3 +18,4 @@ pub mod LawfulCalls
 pub mod Ended
 pub mod LawfulActs
 pub mod LawfulParts
+pub mod LawfulStatements

@@ -1,4 +1,4 @@
-ghost use Rattle.std.specs.Prelude.{◌≡◌, ℕ, suc, ◌≤◌, Option, codes};
+ghost use Rattle.std.specs.Prelude.{◌≡◌, ℕ, suc, ◌-◌, ◌≤◌, Option, codes};
 ghost use Rattle.readings.specs.Readings.{Reading, ◌>>>◌, optional};
 ghost use Rattle.readings.specs.Lawful.{IsLawful, IsReading, Any, Anywhere, optional_ends};
 ghost use Rattle.c_tree.specs.declared.names.Name.{Name};
@@ -11,7 +11,7 @@ ghost use Rattle.c_grammar.specs.Reading.{climb, IsEnd, IsGood};
 ghost use Rattle.c_grammar.specs.Declarations.{declaration};
 ghost use Rattle.c_grammar.specs.Calls.{called, inside_call, IsCallOf};
 ghost use Rattle.c_grammar.specs.Acts.{act, act_behind, IsGoodAct, IsActEnd};
-ghost use Rattle.c_grammar.specs.ReadingStatements.{body};
+ghost use Rattle.c_grammar.specs.ReadingStatements.{body, statement, block_body};
 ghost use Rattle.c_grammar.specs.Globals.{global_variable, IsGlobalEnd};
 ghost use Rattle.c_grammar.specs.Parameters.{parameters, parameters_spelling};
 ghost use Rattle.c_grammar.specs.Until.{tailed_spelling, tailed_good};
@@ -63,4 +63,10 @@ pub fn read_call()
 /// A law: simple statements, with at most `room` nodes below them, are read lawfully.
 pub fn read_act()
     ensures { (room : ℕ) → IsReading act_spelling (IsGoodAct room) IsActEnd (act room) }
+{}
+
+/// A law: statements no deeper than `room` are read lawfully, and what stands in blocks no deeper.
+pub fn read_statement()
+    ensures statements { (room : ℕ) → 1 ≤ room → IsReading statement_spelling (IsGoodStatement room) IsStatementEnd (statement room) }
+    ensures blocks { (room : ℕ) → 1 ≤ room → IsReading closed_spelling (IsGoodBody (room - 1)) Anywhere (block_body room) }
 {}
