@@ -19,3 +19,4 @@ pub mod Ended
 pub mod LawfulActs
 pub mod LawfulParts
 pub mod LawfulStatements
+pub mod LawfulItems

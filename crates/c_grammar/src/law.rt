@@ -6,12 +6,13 @@ ghost use Rattle.c_tree.specs.Formula.{Formula};
 ghost use Rattle.c_tree.specs.Statement.{Statement};
 ghost use Rattle.c_tree.specs.Level.{IsLeveled, unary_level, ends_open};
 ghost use Rattle.c_tree.specs.Spell.{formula_spelling, act_spelling, statement_spelling};
-ghost use Rattle.c_tree.specs.SpellGlobals.{gvar_spelling};
+ghost use Rattle.c_tree.specs.SpellGlobals.{gvar_spelling, item_spelling};
 ghost use Rattle.c_grammar.specs.Reading.{climb, IsEnd, IsGood};
 ghost use Rattle.c_grammar.specs.Declarations.{declaration};
 ghost use Rattle.c_grammar.specs.Calls.{called, inside_call, IsCallOf};
 ghost use Rattle.c_grammar.specs.Acts.{act, act_behind, IsGoodAct, IsActEnd};
 ghost use Rattle.c_grammar.specs.ReadingStatements.{body, statement, block_body};
+ghost use Rattle.c_grammar.specs.Programs.{item, IsGoodItem};
 ghost use Rattle.c_grammar.specs.Globals.{global_variable, IsGlobalEnd};
 ghost use Rattle.c_grammar.specs.Parameters.{parameters, parameters_spelling};
 ghost use Rattle.c_grammar.specs.Until.{tailed_spelling, tailed_good};
@@ -69,4 +70,9 @@ pub fn read_act()
 pub fn read_statement()
     ensures statements { (room : ℕ) → 1 ≤ room → IsReading statement_spelling (IsGoodStatement room) IsStatementEnd (statement room) }
     ensures blocks { (room : ℕ) → 1 ≤ room → IsReading closed_spelling (IsGoodBody (room - 1)) Anywhere (block_body room) }
+{}
+
+/// A law: globals are read lawfully, the blocks of functions being no deeper than `room`.
+pub fn read_item()
+    ensures { (room : ℕ) → 2 ≤ room → IsReading item_spelling (IsGoodItem room) Anywhere (item room) }
 {}

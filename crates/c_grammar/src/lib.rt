@@ -8,5 +8,5 @@ mod law;
 
 pub use law::{
     one_expression, read_act, read_body, read_call, read_declaration, read_else, read_expression,
-    read_global_variable, read_parameters, read_statement,
+    read_global_variable, read_item, read_parameters, read_statement,
 };
