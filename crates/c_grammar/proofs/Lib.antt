@@ -20,3 +20,5 @@ pub mod LawfulActs
 pub mod LawfulParts
 pub mod LawfulStatements
 pub mod LawfulItems
+pub mod Mirrors
+pub mod Programs

@@ -1,18 +1,25 @@
-ghost use Rattle.std.specs.Prelude.{◌≡◌, ℕ, suc, ◌-◌, ◌≤◌, Option, codes};
+ghost use Rattle.std.specs.Prelude.{◌≡◌, ◌⊎◌, ℕ, suc, ◌-◌, ◌≤◌, List, [], Option, All, codes};
 ghost use Rattle.readings.specs.Readings.{Reading, ◌>>>◌, optional};
-ghost use Rattle.readings.specs.Lawful.{IsLawful, IsReading, Any, Anywhere, optional_ends};
+ghost use Rattle.readings.specs.Symbol.{Symbol};
+ghost use Rattle.readings.specs.Reading.{Found, Stuck};
+ghost use Rattle.c_tree.specs.SpellsTree.{SpellsTree};
+ghost use Rattle.readings.specs.Lawful.{Eventually, IsLawful, IsReading, Any, Anywhere, optional_ends};
 ghost use Rattle.c_tree.specs.declared.names.Name.{Name};
 ghost use Rattle.c_tree.specs.Formula.{Formula};
 ghost use Rattle.c_tree.specs.Statement.{Statement};
-ghost use Rattle.c_tree.specs.Level.{IsLeveled, unary_level, ends_open};
+ghost use Rattle.c_tree.specs.Level.{IsLeveled, IsLeveledItem, unary_level, ends_open};
 ghost use Rattle.c_tree.specs.Spell.{formula_spelling, act_spelling, statement_spelling};
-ghost use Rattle.c_tree.specs.SpellGlobals.{gvar_spelling, item_spelling};
+ghost use Rattle.c_tree.specs.SpellGlobals.{gvar_spelling, item_spelling, spelling};
 ghost use Rattle.c_grammar.specs.Reading.{climb, IsEnd, IsGood};
 ghost use Rattle.c_grammar.specs.Declarations.{declaration};
 ghost use Rattle.c_grammar.specs.Calls.{called, inside_call, IsCallOf};
 ghost use Rattle.c_grammar.specs.Acts.{act, act_behind, IsGoodAct, IsActEnd};
 ghost use Rattle.c_grammar.specs.ReadingStatements.{body, statement, block_body};
-ghost use Rattle.c_grammar.specs.Programs.{item, IsGoodItem};
+ghost use Rattle.c_grammar.specs.Programs.{item, program, IsGoodItem};
+ghost use Rattle.c_tree.specs.Items.{Item, items};
+ghost use Rattle.c_tree.specs.Inverse.{tree_of};
+ghost use Rattle.c_tree.specs.declared.program.CTree.{CTree};
+ghost use Rattle.readings.specs.Whole.{StopsIn};
 ghost use Rattle.c_grammar.specs.Globals.{global_variable, IsGlobalEnd};
 ghost use Rattle.c_grammar.specs.Parameters.{parameters, parameters_spelling};
 ghost use Rattle.c_grammar.specs.Until.{tailed_spelling, tailed_good};
@@ -75,4 +82,24 @@ pub fn read_statement()
 /// A law: globals are read lawfully, the blocks of functions being no deeper than `room`.
 pub fn read_item()
     ensures { (room : ℕ) → 2 ≤ room → IsReading item_spelling (IsGoodItem room) Anywhere (item room) }
+{}
+
+/// A law: reading all symbols finds the globals of the program that they spell, and leaves none; and where it is stuck, they stop to begin one.
+pub fn read_program()
+    ensures found { (n : ℕ) (symbols : List Symbol) (gs : List Item) (rest : List Symbol) → program n symbols ≡ Found gs rest → (rest ≡ []) × SpellsTree symbols (tree_of gs) }
+    ensures stuck { (symbols rest : List Symbol) → Eventually (λ n. program n symbols ≡ Stuck rest) → StopsIn SpellsTree symbols rest }
+{}
+
+/// A law: no symbols spell two programs, and no two programs have one spelling, however deep they are.
+pub fn one_tree()
+    ensures one { (symbols : List Symbol) (c d : CTree) → SpellsTree symbols c → SpellsTree symbols d → c ≡ d }
+    ensures placed { (c d : CTree) → All IsLeveledItem (items c) → All IsLeveledItem (items d) → spelling (items c) ≡ spelling (items d) → c ≡ d }
+{}
+
+/// A law: any symbols spell a program, or stop to begin one; which it is can be computed. Where they spell one they don't stop to begin one, and they
+/// stop at one place at most.
+pub fn some_tree()
+    ensures tree { (symbols : List Symbol) → ((c : CTree) × SpellsTree symbols c) ⊎ ((rest : List Symbol) × StopsIn SpellsTree symbols rest) }
+    ensures never { (symbols rest : List Symbol) (c : CTree) → SpellsTree symbols c → StopsIn SpellsTree symbols rest → ⊥ }
+    ensures place { (symbols rest other : List Symbol) → StopsIn SpellsTree symbols rest → StopsIn SpellsTree symbols other → rest ≡ other }
 {}

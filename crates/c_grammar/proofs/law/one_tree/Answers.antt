@@ -1,0 +1,9 @@
+-- Programs are read from their spelling, so no others have it.
+use Rattle.c_grammar.proofs.Programs.{one_program, unique_tree}
+use Rattle.c_grammar.proofs.law.one_tree.Goals as goal
+
+pub returns-clause-one : goal.returns-clause-one
+returns-clause-one c = one_program
+
+pub returns-clause-placed : goal.returns-clause-placed
+returns-clause-placed c = unique_tree
