@@ -22,3 +22,4 @@ pub mod LawfulStatements
 pub mod LawfulItems
 pub mod Mirrors
 pub mod Programs
+pub mod Aside

@@ -9,6 +9,7 @@ pub mod Statements
 pub mod Acts
 pub mod ReadingStatements
 pub mod Programs
+pub mod Unplaced
 pub mod SampleStatements
 pub mod SamplePrograms
 pub mod Sample

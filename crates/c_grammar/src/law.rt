@@ -1,4 +1,4 @@
-ghost use Rattle.std.specs.Prelude.{◌≡◌, ◌⊎◌, ℕ, suc, ◌-◌, ◌≤◌, List, [], Option, All, codes};
+ghost use Rattle.std.specs.Prelude.{◌≡◌, ◌⊎◌, ℕ, suc, ◌-◌, ◌≤◌, List, [], Option, All, map, codes};
 ghost use Rattle.readings.specs.Readings.{Reading, ◌>>>◌, optional};
 ghost use Rattle.readings.specs.Symbol.{Symbol};
 ghost use Rattle.readings.specs.Reading.{Found, Stuck};
@@ -20,6 +20,7 @@ ghost use Rattle.c_tree.specs.Items.{Item, items};
 ghost use Rattle.c_tree.specs.Inverse.{tree_of};
 ghost use Rattle.c_tree.specs.declared.program.CTree.{CTree};
 ghost use Rattle.readings.specs.Whole.{StopsIn};
+ghost use Rattle.c_grammar.specs.Unplaced.{unplaced_symbol, unplaced};
 ghost use Rattle.c_grammar.specs.Globals.{global_variable, IsGlobalEnd};
 ghost use Rattle.c_grammar.specs.Parameters.{parameters, parameters_spelling};
 ghost use Rattle.c_grammar.specs.Until.{tailed_spelling, tailed_good};
@@ -90,10 +91,12 @@ pub fn read_program()
     ensures stuck { (symbols rest : List Symbol) → Eventually (λ n. program n symbols ≡ Stuck rest) → StopsIn SpellsTree symbols rest }
 {}
 
-/// A law: no symbols spell two programs, and no two programs have one spelling, however deep they are.
+/// A law: no symbols spell two programs, and no two programs have one spelling, however deep they are; and where the places are left aside, two
+/// programs with one spelling differ in places alone.
 pub fn one_tree()
     ensures one { (symbols : List Symbol) (c d : CTree) → SpellsTree symbols c → SpellsTree symbols d → c ≡ d }
     ensures placed { (c d : CTree) → All IsLeveledItem (items c) → All IsLeveledItem (items d) → spelling (items c) ≡ spelling (items d) → c ≡ d }
+    ensures aside { (c d : CTree) → All IsLeveledItem (items c) → All IsLeveledItem (items d) → map unplaced_symbol (spelling (items c)) ≡ map unplaced_symbol (spelling (items d)) → unplaced c ≡ unplaced d }
 {}
 
 /// A law: any symbols spell a program, or stop to begin one; which it is can be computed. Where they spell one they don't stop to begin one, and they
