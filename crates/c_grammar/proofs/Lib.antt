@@ -23,3 +23,6 @@ pub mod LawfulItems
 pub mod Mirrors
 pub mod Programs
 pub mod Aside
+pub mod Inside
+pub mod OneReading
+pub mod SomeReading

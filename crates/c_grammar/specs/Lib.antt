@@ -10,6 +10,7 @@ pub mod Acts
 pub mod ReadingStatements
 pub mod Programs
 pub mod Unplaced
+pub mod Trees
 pub mod SampleStatements
 pub mod SamplePrograms
 pub mod Sample

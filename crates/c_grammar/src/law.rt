@@ -21,6 +21,8 @@ ghost use Rattle.c_tree.specs.Inverse.{tree_of};
 ghost use Rattle.c_tree.specs.declared.program.CTree.{CTree};
 ghost use Rattle.readings.specs.Whole.{StopsIn};
 ghost use Rattle.c_grammar.specs.Unplaced.{unplaced_symbol, unplaced};
+ghost use Rattle.c_grammar.specs.Trees.{IsTree, HasNoTree, IsOutsideAt};
+ghost use Rattle.c_lex.specs.Lexed.{IsStuckAt};
 ghost use Rattle.c_grammar.specs.Globals.{global_variable, IsGlobalEnd};
 ghost use Rattle.c_grammar.specs.Parameters.{parameters, parameters_spelling};
 ghost use Rattle.c_grammar.specs.Until.{tailed_spelling, tailed_good};
@@ -105,4 +107,25 @@ pub fn some_tree()
     ensures tree { (symbols : List Symbol) → ((c : CTree) × SpellsTree symbols c) ⊎ ((rest : List Symbol) × StopsIn SpellsTree symbols rest) }
     ensures never { (symbols rest : List Symbol) (c : CTree) → SpellsTree symbols c → StopsIn SpellsTree symbols rest → ⊥ }
     ensures place { (symbols rest other : List Symbol) → StopsIn SpellsTree symbols rest → StopsIn SpellsTree symbols other → rest ≡ other }
+{}
+
+/// A law: no bytes have two programs; where they have one, their tokens don't stop to begin one and none is left out; where one is left out they
+/// don't stop to begin one; and there is one place of each at most.
+///
+/// The language is this project's own.
+pub fn one_reading()
+    ensures one { (bytes : List ℕ) (c d : CTree) → IsTree bytes c → IsTree bytes d → c ≡ d }
+    ensures never { (bytes : List ℕ) (c : CTree) (at : ℕ) → IsTree bytes c → HasNoTree bytes at → ⊥ }
+    ensures inside { (bytes : List ℕ) (c : CTree) (at : ℕ) → IsTree bytes c → IsOutsideAt bytes at → ⊥ }
+    ensures apart { (bytes : List ℕ) (at other : ℕ) → HasNoTree bytes at → IsOutsideAt bytes other → ⊥ }
+    ensures place { (bytes : List ℕ) (at other : ℕ) → HasNoTree bytes at → HasNoTree bytes other → at ≡ other }
+    ensures outside { (bytes : List ℕ) (at other : ℕ) → IsOutsideAt bytes at → IsOutsideAt bytes other → at ≡ other }
+{}
+
+/// A law: any bytes have a program, or their tokens stop to begin one, or one of their tokens is left out, or they are stuck. Which it is can be
+/// computed.
+///
+/// The language is this project's own.
+pub fn some_reading()
+    ensures { (bytes : List ℕ) → ((c : CTree) × IsTree bytes c) ⊎ (((at : ℕ) × HasNoTree bytes at) ⊎ (((at : ℕ) × IsOutsideAt bytes at) ⊎ ((at : ℕ) × IsStuckAt bytes at))) }
 {}
