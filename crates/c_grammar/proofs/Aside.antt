@@ -1,7 +1,7 @@
 -- A program without places is spelled as its symbols without theirs, and keeps its levels. So two programs whose symbols differ in places alone do
 -- so too.
-use Rattle.std.proofs.Common.{◌≡◌, ℕ, ◌≤◌, ◌<◌, Bool, List, [], ◌∷◌, ◌++◌, Option, Some, None, map, option_map, refl, ap, sym, ◌∙◌, subst}
-use Rattle.std.specs.Prelude.{codes, flat_map, All, IsFalse}
+use Rattle.std.proofs.Common.{◌≡◌, ℕ, ◌≤◌, ◌<◌, List, [], ◌∷◌, ◌++◌, Option, Some, None, map, option_map, refl, ap, sym, ◌∙◌, subst}
+use Rattle.std.specs.Prelude.{codes, All, IsFalse}
 use Rattle.std.proofs.lemmas.List.{map-append}
 use Rattle.std.proofs.lemmas.List.Elements.{All-nil, All-cons, All-head, All-tail}
 use Rattle.c_tree.specs.declared.names.Name.{Name}
@@ -26,7 +26,6 @@ use Rattle.readings.specs.Whole.{Goods}
 use Rattle.c_tree.specs.Formula.{Formula, Further, Numeral, Named, Indexed, Called, CalledWith, Paren, Unary, Binary, NoMore, More}
 use Rattle.c_tree.specs.Statement.{Index, Act, Assign, Step, Invoke, Variable, Scalar, Initial, Array, Declaration, Opening, Acts, Declares, Statement, Braces, Empty, Simply, Break, Continue, Return, If, IfElse, While, Do, For, Body, Nothing, Declare, Then}
 use Rattle.c_tree.specs.Items.{Item, Variables, Defines, items}
-use Rattle.c_tree.specs.Inverse.{tree_of}
 use Rattle.c_tree.specs.Level.{binary_level, unary_level, level, IsLeveled, IsLeveledFurther, IsLeveledIndex, IsLeveledAct, IsLeveledVariable, AreLeveledVariables, IsLeveledOpening, IsLeveledOption, IsLeveledLast, ends_open, IsLeveledStatement, IsLeveledBody, IsLeveledItem}
 use Rattle.c_tree.specs.Spell.{prefix_mark, binary_mark, name_spelling, number_spelling, type_spelling, formula_spelling, further_spelling, index_spelling, store_spelling, change_spelling, act_spelling, variable_spelling, further_variables_spelling, declaration_spelling, opening_spelling, optional_spelling, last_spelling, statement_spelling, body_spelling}
 use Rattle.c_tree.specs.SpellGlobals.{minus_spelling, snum_spelling, further_snums_spelling, initials_spelling, gvar_spelling, further_gvars_spelling, result_spelling, param_spelling, further_params_spelling, params_spelling, item_spelling, spelling}

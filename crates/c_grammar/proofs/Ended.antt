@@ -1,5 +1,5 @@
 -- A thing or none up to a mark is read lawfully; and so is what ends elsewhere, if what is found says so.
-use Rattle.std.proofs.Common.{◌≡◌, ◌⊎◌, inl, inr, ℕ, List, [], ◌∷◌, ◌++◌, Option, Some, None, refl, ap, sym, ◌∙◌, subst, append_assoc}
+use Rattle.std.proofs.Common.{◌≡◌, ◌⊎◌, inl, inr, ℕ, List, ◌∷◌, ◌++◌, Option, Some, None, refl, ap, sym, ◌∙◌, subst, append_assoc}
 use Rattle.readings.specs.Symbol.{Symbol, fixed, beyond}
 use Rattle.readings.specs.Reading.{behind}
 use Rattle.readings.specs.Readings.{Reading, ◌>>>◌, made, given, sign}

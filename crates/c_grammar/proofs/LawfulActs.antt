@@ -1,5 +1,5 @@
 -- Simple statements are read lawfully.
-use Rattle.std.proofs.Common.{◌≡◌, ◌⊎◌, inl, inr, ℕ, zero, suc, ◌-◌, ◌≤◌, List, [], ◌∷◌, ◌++◌, Option, Some, None, refl, ap, sym, ◌∙◌, subst, arith, append_assoc}
+use Rattle.std.proofs.Common.{◌≡◌, ℕ, zero, suc, ◌-◌, ◌≤◌, List, [], ◌∷◌, ◌++◌, Option, Some, None, refl, ap, sym, ◌∙◌, subst, arith, append_assoc}
 use Rattle.std.specs.Prelude.{codes}
 use Rattle.c_tree.specs.declared.names.Name.{Name}
 use Rattle.c_tree.specs.declared.statement.AssignMark.{AssignMark}
@@ -16,14 +16,13 @@ use Rattle.readings.proofs.Combining.{sign_law, made_law, made_all, then_law, th
 use Rattle.readings.proofs.CombiningWords.{made_front, Word, ToldWord, worded_law, single_behind}
 use Rattle.c_tree.specs.Formula.{Formula, Further, Numeral, Named, Indexed, Called, CalledWith, Paren, Unary, Binary, NoMore, More, further}
 use Rattle.c_tree.specs.Statement.{Index, Act, Assign, Step, Invoke}
-use Rattle.c_tree.specs.Level.{IsLeveledFurther, IsLeveled}
-use Rattle.c_tree.specs.Depth.{depth, further_depth}
+use Rattle.c_tree.specs.Level.{IsLeveledFurther}
+use Rattle.c_tree.specs.Depth.{further_depth}
 use Rattle.c_tree.specs.Spell.{formula_spelling, store_spelling, change_spelling, act_spelling}
 use Rattle.c_grammar.specs.Reading.{IsEnd, IsGood}
 use Rattle.c_grammar.specs.Declarations.{expression}
-use Rattle.c_grammar.specs.Calls.{Arguments, call_of, called, called_within, arguments_good, IsCallOf, Alone, With, inside_call}
+use Rattle.c_grammar.specs.Calls.{Arguments, call_of, called_within, arguments_good, IsCallOf, Alone, With, inside_call}
 use Rattle.c_grammar.specs.Acts.{Deed, Stores, Changes, done_to, DeedMark, Storing, Changing, deed_marks, behind_deed, deed, ActMark, Calling, Indexing, Doing, act_marks, behind_mark, act_behind, act, IsGoodAct, IsActEnd}
-use Rattle.c_grammar.specs.Statements.{IsCall, IsWritten}
 use Rattle.c_grammar.proofs.Flat.{join4, one_node}
 use Rattle.c_grammar.proofs.LawfulExpressions.{expression_law}
 use Rattle.c_grammar.proofs.LawfulCalls.{called_law}
@@ -353,13 +352,13 @@ good_named room (Assign n None s e) g =
 good_named room (Assign n (Some (p, i, q)) s e) g = (
   n,
   indexed_told room n p i q (Stores s e) (omega (arith, g.shallow, one_node i))
-  (record { leveled = g.leveled.0; at_least = omega arith; shallow = omega (arith, g.shallow) }, record { leveled = g.leveled.1; at_least = omega arith; shallow = omega (arith, g.shallow) }),
+      (record { leveled = g.leveled.0; at_least = omega arith; shallow = omega (arith, g.shallow) }, record { leveled = g.leveled.1; at_least = omega arith; shallow = omega (arith, g.shallow) }),
 )
 good_named room (Step n None c) g = (n, done_told room n (Changes c) (omega (arith, g.shallow)) tt)
 good_named room (Step n (Some (p, i, q)) c) g = (
   n,
   indexed_told room n p i q (Changes c) (omega (arith, g.shallow, one_node i))
-  (record { leveled = g.leveled; at_least = omega arith; shallow = omega (arith, g.shallow) }, tt),
+      (record { leveled = g.leveled; at_least = omega arith; shallow = omega (arith, g.shallow) }, tt),
 )
 good_named room (Invoke (Called n p q)) g = (n, (codes "(", Calling, p, calling_at room, (Called n p q, Alone q refl, refl)))
 good_named room (Invoke (CalledWith n p e xs q)) g = (
@@ -371,8 +370,11 @@ good_named room (Invoke (CalledWith n p e xs q)) g = (
     calling_at room,
     (
       CalledWith n p e xs q,
-      With ((e, (others xs, q)), (record { leveled = g.leveled.0; at_least = omega arith; shallow = omega (arith, g.shallow) }, others_good room xs g.leveled.1 (omega (arith, g.shallow))),
-      ap (λ u. CalledWith n p e u q) (others_further xs)),
+      With (
+        (e, (others xs, q)),
+        (record { leveled = g.leveled.0; at_least = omega arith; shallow = omega (arith, g.shallow) }, others_good room xs g.leveled.1 (omega (arith, g.shallow))),
+        ap (λ u. CalledWith n p e u q) (others_further xs),
+      ),
       refl,
     ),
   ),

@@ -17,13 +17,13 @@ use Rattle.c_tree.specs.Formula.{Formula}
 use Rattle.c_tree.specs.Statement.{Variable, Scalar, Initial, Array, Declaration}
 use Rattle.c_tree.specs.Level.{AreLeveledVariables}
 use Rattle.c_tree.specs.Depth.{further_variables_depth}
-use Rattle.c_tree.specs.Spell.{number_spelling, type_spelling, variable_spelling, further_variables_spelling, declaration_spelling, formula_spelling}
+use Rattle.c_tree.specs.Spell.{number_spelling, variable_spelling, further_variables_spelling, formula_spelling}
 use Rattle.c_grammar.specs.Reading.{IsEnd, IsGood}
-use Rattle.c_grammar.specs.Words.{number, type_word_read}
+use Rattle.c_grammar.specs.Words.{number}
 use Rattle.c_grammar.specs.Until.{until_spelling, until_good}
 use Rattle.c_grammar.specs.Declarations.{plain_variable, variable_within, IsPlainEnd, IsVariableEndWithin, expression, array, initial, array_from, without_initial, initial_from, variable_behind, variable, further_variables, declaration, IsGoodVariable, IsVariableEnd}
 use Rattle.c_grammar.specs.Statements.{IsDeclarationOf, inside_declaration}
-use Rattle.c_grammar.proofs.LawfulWords.{number_law, type_law}
+use Rattle.c_grammar.proofs.LawfulWords.{number_law}
 use Rattle.c_grammar.proofs.LawfulExpressions.{expression_law}
 use Rattle.c_grammar.proofs.Until.{until_law}
 use Rattle.c_grammar.proofs.Flat.{one_node}

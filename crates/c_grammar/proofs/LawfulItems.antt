@@ -1,5 +1,5 @@
 -- Globals are read lawfully.
-use Rattle.std.proofs.Common.{◌≡◌, ◌⊎◌, inl, inr, ℕ, ◌+◌, ◌-◌, ◌≤◌, List, [], ◌∷◌, ◌++◌, Option, Some, None, refl, ap, sym, ◌∙◌, subst, arith, append_assoc}
+use Rattle.std.proofs.Common.{◌≡◌, ◌⊎◌, inl, inr, ℕ, ◌-◌, ◌≤◌, List, [], ◌∷◌, ◌++◌, Option, Some, None, refl, ap, sym, ◌∙◌, subst, arith, append_assoc}
 use Rattle.std.specs.Prelude.{codes, flat_map}
 use Rattle.c_tree.specs.declared.names.Name.{Name}
 use Rattle.c_tree.specs.declared.names.TypeWord.{TypeWord}
@@ -7,7 +7,6 @@ use Rattle.c_tree.specs.declared.names.TypeWord.TheVariants as type_word
 use Rattle.c_tree.specs.declared.program.GVar.{GVar}
 use Rattle.c_tree.specs.declared.program.GVar.TheVariants as gvars
 use Rattle.c_tree.specs.declared.program.Vars.{Vars}
-use Rattle.c_tree.specs.declared.program.Params.{Params}
 use Rattle.c_tree.specs.declared.program.ResultWord.{ResultWord}
 use Rattle.c_tree.specs.declared.program.ResultWord.TheVariants as result_word
 use Rattle.readings.specs.Symbol.{Symbol, fixed, beyond}
@@ -18,17 +17,15 @@ use Rattle.readings.proofs.Symbols.{some_is, none_is_none, Each}
 use Rattle.readings.proofs.Combining.{sign_law, made_law, then_law, then_free, other_law, picked, Behind, told_law}
 use Rattle.readings.proofs.CombiningWords.{made_front, Word, ToldWord, worded_law}
 use Rattle.readings.proofs.CombiningMarks.{by_mark_law}
-use Rattle.c_tree.specs.Statement.{Body, Braced, Nothing}
-use Rattle.c_tree.specs.Items.{Definition, Item, Variables, Defines}
-use Rattle.c_tree.specs.Depth.{gvar_depth, further_gvars_depth, body_depth}
-use Rattle.c_tree.specs.Spell.{name_spelling, type_spelling, body_spelling}
-use Rattle.c_tree.specs.SpellGlobals.{gvar_spelling, further_gvars_spelling, params_spelling, result_spelling, item_spelling}
+use Rattle.c_tree.specs.Items.{Item, Variables, Defines}
+use Rattle.c_tree.specs.Depth.{gvar_depth, further_gvars_depth}
+use Rattle.c_tree.specs.Spell.{name_spelling}
+use Rattle.c_tree.specs.SpellGlobals.{gvar_spelling, further_gvars_spelling, result_spelling, item_spelling}
 use Rattle.c_grammar.specs.Until.{until_spelling}
 use Rattle.c_grammar.specs.Words.{name}
 use Rattle.c_grammar.specs.Globals.{global_behind, further_globals, IsGlobalEnd}
-use Rattle.c_grammar.specs.Parameters.{parameters, parameters_spelling}
+use Rattle.c_grammar.specs.Parameters.{parameters_spelling}
 use Rattle.c_grammar.specs.Statements.{IsGoodBody, closed_spelling}
-use Rattle.c_grammar.specs.ReadingStatements.{block_body}
 use Rattle.c_grammar.specs.Programs.{Signed, defined, signed, function, variables, valued_from, valued, valueless, ItemStart, Valued, Valueless, item_starts, behind_item, item, IsGoodItem}
 use Rattle.c_grammar.proofs.LawfulWords.{name_law}
 use Rattle.c_grammar.proofs.LawfulGlobals as globals
@@ -136,8 +133,14 @@ module _ (room : ℕ) (some : 2 ≤ room) where
             → (IsMade (named_good x) variables_of g × ((r : List Symbol) → Unit {0} → Unit {0} × (behind (codes "(") (inside g ++ r) ≡ None)))
             ⊎ ((p : ℕ) × IsMade (signed_good room) (defined int_word x p) g)
         sorted g (inl h) =
-            inl (h, λ r e. (tt, subst (λ u. behind (codes "(") (inside u ++ r) ≡ None) h.2
-            (ap (λ u. behind (codes "(") (u ++ r)) (variables_same h.0) ∙ no_call h.0.0 h.0.1.0 h.0.1.1 r)))
+            inl (
+              h,
+              λ r e. (
+                tt,
+                subst (λ u. behind (codes "(") (inside u ++ r) ≡ None) h.2
+                    (ap (λ u. behind (codes "(") (u ++ r)) (variables_same h.0) ∙ no_call h.0.0 h.0.1.0 h.0.1.1 r),
+              ),
+            )
         sorted g (inr h) = inr h
 
     -- a name is in front

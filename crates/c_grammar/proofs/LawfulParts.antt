@@ -1,17 +1,17 @@
 -- The parts of statements, and what stands in a block, are read lawfully.
-use Rattle.std.proofs.Common.{◌≡◌, ◌⊎◌, inl, inr, ℕ, zero, suc, ◌-◌, ◌≤◌, List, [], ◌∷◌, ◌++◌, Option, Some, None, refl, ap, sym, ◌∙◌, subst, arith}
+use Rattle.std.proofs.Common.{◌≡◌, ◌⊎◌, inl, inr, ℕ, zero, suc, ◌-◌, ◌≤◌, List, ◌∷◌, ◌++◌, Option, Some, None, refl, ap, sym, ◌∙◌, subst, arith}
 use Rattle.std.specs.Prelude.{codes}
 use Rattle.c_tree.specs.declared.names.TypeWord.{TypeWord}
 use Rattle.c_tree.specs.declared.names.TypeWord.TheVariants as type_word
 use Rattle.readings.specs.Symbol.{Symbol, fixed, beyond}
 use Rattle.readings.specs.Reading.{behind}
-use Rattle.readings.specs.Readings.{Reading, ◌>>>◌, made, sign}
+use Rattle.readings.specs.Readings.{Reading, made, sign}
 use Rattle.readings.specs.Lawful.{IsReading, IsMade, Any, Anywhere}
-use Rattle.readings.proofs.Combining.{sign_law, made_law, made_all, then_law, then_free, other_law}
+use Rattle.readings.proofs.Combining.{sign_law, made_law, made_all, then_law, then_free}
 use Rattle.readings.proofs.CombiningWords.{made_front}
 use Rattle.readings.proofs.CombiningMarks.{by_mark_law}
 use Rattle.c_tree.specs.Formula.{Formula, Prefix, Numeral, Named, Indexed, Called, CalledWith, Paren, Unary, Binary}
-use Rattle.c_tree.specs.Statement.{Variable, Scalar, Initial, Array, Declaration, Act, Assign, Step, Invoke, Opening, Acts, Declares, Statement, Braces, Empty, Simply, Break, Continue, Return, If, IfElse, While, Do, For, Body, Nothing, Declare, Then}
+use Rattle.c_tree.specs.Statement.{Variable, Scalar, Initial, Array, Act, Assign, Step, Invoke, Opening, Acts, Declares, Statement, Braces, Empty, Simply, Break, Continue, Return, If, IfElse, While, Do, For, Body, Nothing, Declare, Then}
 use Rattle.c_tree.specs.Level.{IsLeveledOpening}
 use Rattle.c_tree.specs.Depth.{variable_depth, opening_depth, statement_depth}
 use Rattle.c_tree.specs.Spell.{binary_mark, formula_spelling, act_spelling, variable_spelling, opening_spelling, statement_spelling}
@@ -19,7 +19,7 @@ use Rattle.c_grammar.specs.Reading.{IsEnd, IsGood}
 use Rattle.c_grammar.specs.Until.{ended, ended_spelling, ended_good}
 use Rattle.c_grammar.specs.Declarations.{expression, variable_within, declaration, IsGoodVariable, IsVariableEnd, IsVariableEndWithin}
 use Rattle.c_grammar.specs.Acts.{act, IsGoodAct, IsActEnd}
-use Rattle.c_grammar.specs.Statements.{IsCall, IsWritten, IsWrittenOpening, IsWrittenStatement, IsGoodStatement, IsStatementEnd, BodyPart, Declaring, Stating, part_spelling, IsGoodDeclaration, IsDeclarationOf, inside_declaration, IsGoodPart, IsPartEnd, IsGoodBody, closed_spelling, closed_body}
+use Rattle.c_grammar.specs.Statements.{IsCall, IsWritten, IsWrittenOpening, IsWrittenStatement, IsGoodStatement, IsStatementEnd, BodyPart, Declaring, Stating, part_spelling, IsGoodDeclaration, IsDeclarationOf, inside_declaration, IsGoodPart, IsPartEnd, IsGoodBody, closed_spelling}
 use Rattle.c_grammar.specs.ReadingStatements.{Condition, condition, ended_expression, opening_from, opening, Header, header, part_from, body_part, body}
 use Rattle.c_grammar.proofs.Flat.{flat-Binary, one_node}
 use Rattle.c_grammar.proofs.LawfulExpressions.{expression_law}

@@ -1,25 +1,25 @@
 -- Statements are read lawfully.
-use Rattle.std.proofs.Common.{◌≡◌, ◌⊎◌, inl, inr, ℕ, zero, suc, ◌-◌, ◌<◌, ◌≤◌, List, [], ◌∷◌, ◌++◌, length, length-append, Option, Some, None, option_map, refl, ap, sym, ◌∙◌, subst, arith, append_assoc, append-nil}
+use Rattle.std.proofs.Common.{◌≡◌, ℕ, zero, suc, ◌-◌, ◌<◌, ◌≤◌, List, [], ◌∷◌, ◌++◌, length, length-append, Option, Some, None, option_map, refl, ap, sym, ◌∙◌, subst, arith, append_assoc, append-nil}
 use Rattle.std.specs.Prelude.{codes, IsTrue}
 use Rattle.c_tree.specs.declared.names.Name.{Name}
 use Rattle.readings.specs.Symbol.{Symbol, fixed, beyond}
-use Rattle.readings.specs.Reading.{Stuck, looked_up}
-use Rattle.readings.specs.Readings.{Reading, ◌>>>◌, made, sign, optional, worded, worded_from}
+use Rattle.readings.specs.Reading.{looked_up}
+use Rattle.readings.specs.Readings.{Reading, ◌>>>◌, made, sign, optional, worded_from}
 use Rattle.readings.specs.Lawful.{IsReading, IsMade, Any, Anywhere, optional_ends}
-use Rattle.readings.proofs.Symbols.{some_is, none_is_none, Each, entry}
+use Rattle.readings.proofs.Symbols.{some_is, none_is_none, Each}
 use Rattle.readings.proofs.After.{other_end}
 use Rattle.readings.proofs.Combining.{sign_law, made_law, then_law, then_free, other_law, picked, Behind, Told, told_law}
-use Rattle.readings.proofs.CombiningWords.{made_front, Word, OfWord, word_pick, word_each, single_behind}
-use Rattle.c_tree.specs.Formula.{Formula, Further, Numeral, Named, Indexed, Called, CalledWith, Paren, Unary, Binary}
+use Rattle.readings.proofs.CombiningWords.{made_front, Word, OfWord, word_each, single_behind}
+use Rattle.c_tree.specs.Formula.{Formula, Numeral, Named, Indexed, Called, CalledWith, Paren, Unary, Binary}
 use Rattle.c_tree.specs.Statement.{Act, Assign, Step, Invoke, Opening, Statement, Braces, Empty, Simply, Break, Continue, Return, If, IfElse, While, Do, For, Body}
 use Rattle.c_tree.specs.Level.{IsLeveledOpening, IsLeveledOption, IsLeveledLast, ends_open}
-use Rattle.c_tree.specs.Depth.{act_depth, opening_depth, optional_depth, last_depth, statement_depth}
+use Rattle.c_tree.specs.Depth.{act_depth, opening_depth, optional_depth, last_depth}
 use Rattle.c_tree.specs.Spell.{binary_mark, formula_spelling, act_spelling, statement_spelling, opening_spelling, optional_spelling, last_spelling}
 use Rattle.c_grammar.specs.Reading.{IsGood}
 use Rattle.c_grammar.specs.Until.{ended_spelling, ended_good, tailed_spelling, tailed_good}
 use Rattle.c_grammar.specs.Acts.{act_behind, IsGoodAct, IsActEnd}
 use Rattle.c_grammar.specs.Statements.{IsWrittenOpening, IsWrittenLast, IsGoodStatement, IsStatementEnd, IsGoodBody, closed_spelling}
-use Rattle.c_grammar.specs.ReadingStatements.{Condition, condition, ended_expression, Header, header, body, Start, Ending, Breaking, Continuing, Returning, Bracing, Branching, Looping, Doing, Counting, starts, branch, behind_start, named_statement, statement_over, statement, block_body}
+use Rattle.c_grammar.specs.ReadingStatements.{Condition, condition, ended_expression, Header, header, Start, Ending, Breaking, Continuing, Returning, Bracing, Branching, Looping, Doing, Counting, starts, branch, behind_start, named_statement, statement_over, statement, block_body}
 use Rattle.c_grammar.proofs.Flat.{join4, one_node}
 use Rattle.c_grammar.proofs.LawfulActs.{OfName, act_behind_law, named_good, named_front, good_named}
 use Rattle.c_grammar.proofs.LawfulParts.{condition_spelling, condition_good, condition_law, value_spelling, value_law, first_spelling, IsGoodOpening, header_spelling, header_good, header_law, one_statement, body_law}

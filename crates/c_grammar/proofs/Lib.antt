@@ -26,3 +26,4 @@ pub mod Aside
 pub mod Inside
 pub mod OneReading
 pub mod SomeReading
+pub mod SampleBytes

@@ -1,11 +1,9 @@
 -- What is read comes back from the tree that is made of it, and of expressions only calls are statements of a tree.
-use Rattle.std.proofs.Common.{◌≡◌, refl, sym, ◌∙◌, ap, subst, ℕ, List, [], ◌∷◌, Option, Some, None}
+use Rattle.std.proofs.Common.{◌≡◌, refl, sym, subst, ℕ, List, [], ◌∷◌, Option, Some, None}
 use Rattle.std.specs.Prelude.{map, option_map}
 use Rattle.c_tree.specs.declared.operator.Bin.TheVariants as bin
-use Rattle.c_tree.specs.declared.expression.Expr.{Expr}
 use Rattle.c_tree.specs.declared.statement.Simple.{Simple}
 use Rattle.c_tree.specs.declared.statement.Simple.TheVariants as simple
-use Rattle.c_tree.specs.declared.statement.LVar.{LVar}
 use Rattle.c_tree.specs.declared.statement.First.{First}
 use Rattle.c_tree.specs.declared.statement.First.TheVariants as first
 use Rattle.c_tree.specs.declared.statement.Block.{Block}
@@ -19,9 +17,9 @@ use Rattle.c_tree.specs.declared.program.Global.TheVariants as global
 use Rattle.c_tree.specs.declared.program.CTree.{CTree}
 use Rattle.readings.specs.Whole.{Goods}
 use Rattle.c_tree.specs.Formula.{Prefix, Formula, Further, Numeral, Named, Indexed, Called, CalledWith, Paren, Unary, Binary, NoMore, More, formula, further}
-use Rattle.c_tree.specs.Statement.{Index, Act, Assign, Step, Invoke, Variable, Scalar, Initial, Array, Declaration, Opening, Acts, Declares, Statement, Braces, Empty, Simply, Break, Continue, Return, If, IfElse, While, Do, For, Body, Nothing, Declare, Then, Braced, index, act, variable, declaration, opening, part_step, statement_step, block_step, part, statement, block, chained}
+use Rattle.c_tree.specs.Statement.{Index, Act, Assign, Step, Invoke, Variable, Scalar, Initial, Array, Declaration, Opening, Acts, Declares, Statement, Braces, Empty, Simply, Break, Continue, Return, If, IfElse, While, Do, For, Body, Nothing, Declare, Then, Braced, index, act, variable, declaration, opening, part_step, statement_step, part, statement, block, chained}
 use Rattle.c_tree.specs.Items.{Item, Variables, Defines, item, items}
-use Rattle.c_tree.specs.Inverse.{expr_of, rest_of, index_of, simple_of, lvar_of, decl_of, first_of, stmt_of, parts_of, block_of, global_of, tree_of}
+use Rattle.c_tree.specs.Inverse.{expr_of, rest_of, index_of, simple_of, lvar_of, decl_of, first_of, stmt_of, parts_of, global_of, tree_of}
 use Rattle.c_tree.proofs.FormulaLaws.{formula_laws}
 use Rattle.c_tree.proofs.StatementLaws.{part_at, statement_at, block_at, statement_laws}
 use Rattle.c_grammar.specs.Statements.{IsWritten, IsWrittenOpening, IsWrittenLast, IsWrittenStatement, IsWrittenBody}

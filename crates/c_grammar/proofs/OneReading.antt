@@ -1,7 +1,7 @@
 -- Bytes have one program, or one place where their tokens stop to begin one, or one first token that is left out.
 use Rattle.std.proofs.Common.{◌≡◌, ℕ, List, [], ◌∷◌, ◌++◌, length, map, ap, sym, ◌∙◌, subst}
 use Rattle.c_tree.specs.declared.program.CTree.{CTree}
-use Rattle.readings.specs.Symbol.{Symbol, first_place}
+use Rattle.readings.specs.Symbol.{first_place}
 use Rattle.readings.specs.Whole.{Goods}
 use Rattle.readings.proofs.OneEnd.{goes_through, one_left}
 use Rattle.c_tree.specs.Items.{items}

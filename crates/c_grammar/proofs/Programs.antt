@@ -1,7 +1,7 @@
 -- Reading all symbols finds the program that they spell, and where it is stuck, those before begin one and with the next begin none. No symbols
 -- spell two programs.
-use Rattle.std.proofs.Common.{◌≡◌, ◌⊎◌, ℕ, ◌+◌, ◌<◌, ◌≤◌, max, suc, List, [], ◌∷◌, ◌++◌, length, refl, ap, sym, ◌∙◌, subst, arith}
-use Rattle.std.specs.Prelude.{codes, flat_map, All}
+use Rattle.std.proofs.Common.{◌≡◌, ◌⊎◌, ℕ, ◌+◌, ◌<◌, ◌≤◌, max, suc, List, [], ◌∷◌, length, refl, ap, sym, ◌∙◌, subst, arith}
+use Rattle.std.specs.Prelude.{flat_map, All}
 use Rattle.std.proofs.lemmas.List.Elements.{All-nil, All-cons, All-head, All-tail}
 use Rattle.c_tree.specs.declared.names.TypeWord.{TypeWord}
 use Rattle.c_tree.specs.declared.names.TypeWord.TheVariants as type_word
@@ -10,7 +10,7 @@ use Rattle.c_tree.specs.declared.program.ResultWord.TheVariants as result_word
 use Rattle.c_tree.specs.declared.program.Vars.{Vars}
 use Rattle.c_tree.specs.declared.program.CTree.{CTree}
 use Rattle.readings.specs.Symbol.{Symbol}
-use Rattle.readings.specs.Reading.{Read, Found, Stuck}
+use Rattle.readings.specs.Reading.{Found, Stuck}
 use Rattle.readings.specs.Readings.{to_end}
 use Rattle.readings.specs.Lawful.{Eventually, Anywhere}
 use Rattle.readings.specs.Whole.{Goods, StopsIn}

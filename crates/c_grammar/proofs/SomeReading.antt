@@ -1,13 +1,15 @@
 -- Any bytes have a program, or one of the faults: they are stuck, one of their tokens is left out, or no program has their tokens.
-use Rattle.std.proofs.Common.{◌≡◌, ◌⊎◌, inl, inr, ℕ, List, [], ◌∷◌, length, map, refl}
+use Rattle.std.proofs.Common.{◌≡◌, ◌⊎◌, inl, inr, ℕ, suc, List, [], ◌∷◌, length, map, refl}
 use Rattle.c_tree.specs.declared.program.CTree.{CTree}
 use Rattle.readings.specs.Symbol.{Symbol, first_place}
+use Rattle.readings.specs.Reading.{Stuck}
 use Rattle.readings.specs.Whole.{StopsIn}
 use Rattle.c_tree.specs.SpellsTree.{SpellsTree}
 use Rattle.nml_lex.specs.Lexed.{Lexeme}
 use Rattle.c_lex.specs.Lexed as tokens
 use Rattle.c_lex.specs.Lexed.{HasLexemes, IsStuckAt}
 use Rattle.c_lex.proofs.Settled.{some}
+use Rattle.c_grammar.specs.Programs.{program}
 use Rattle.c_grammar.specs.Trees.{symbol, outside_places, IsTree, HasNoTree, IsOutsideAt}
 use Rattle.c_grammar.proofs.Programs as symbols
 
@@ -53,3 +55,8 @@ of_lexing bytes (inr s) = inr (inr (inr s))
 pub some_bytes : (bytes : List ℕ)
     → ((c : CTree) × IsTree bytes c) ⊎ (((at : ℕ) × HasNoTree bytes at) ⊎ (((at : ℕ) × IsOutsideAt bytes at) ⊎ ((at : ℕ) × IsStuckAt bytes at)))
 some_bytes bytes = of_lexing bytes (some tokens.c bytes)
+
+-- as one reading tells
+pub read_none : (bytes : List ℕ) (ps : List Lexeme) (rest : List Symbol) → HasLexemes bytes ps → outside_places ps ≡ []
+    → program (suc (suc (length (map symbol ps)))) (map symbol ps) ≡ Stuck rest → HasNoTree bytes (first_place (length bytes) rest)
+read_none bytes ps rest h i e = none_where bytes ps rest h i (symbols.stuck_tree_once (map symbol ps) rest e)

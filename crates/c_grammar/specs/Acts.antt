@@ -1,5 +1,5 @@
 -- Reading simple statements from the front of a list of symbols: assignments, steps by one and calls.
-use Rattle.std.specs.Prelude.{ℕ, zero, suc, ◌-◌, ◌≤◌, List, [], ◌∷◌, Option, Some, None, codes}
+use Rattle.std.specs.Prelude.{ℕ, zero, suc, ◌-◌, ◌≤◌, List, [], ◌∷◌, Some, None, codes}
 use Rattle.c_tree.specs.declared.names.Name.{Name}
 use Rattle.c_tree.specs.declared.statement.AssignMark.{AssignMark}
 use Rattle.c_tree.specs.declared.statement.AssignMark.TheVariants as store

@@ -9,7 +9,7 @@ use Rattle.readings.specs.Symbol.{Symbol}
 use Rattle.readings.specs.Reading.{Read, read_on, behind}
 use Rattle.readings.specs.Readings.{Reading, ◌>>>◌, made, sign, worded, to_end}
 use Rattle.c_tree.specs.Statement.{Body}
-use Rattle.c_tree.specs.Items.{Definition, Item, Variables, Defines}
+use Rattle.c_tree.specs.Items.{Item, Variables, Defines}
 use Rattle.c_tree.specs.Level.{IsLeveledItem}
 use Rattle.c_tree.specs.Depth.{item_depth, depth_limit}
 use Rattle.c_grammar.specs.Words.{name}

@@ -6,7 +6,7 @@ use Rattle.readings.specs.Symbol.{Symbol}
 use Rattle.readings.specs.Reading.{Read, Stuck, behind}
 use Rattle.readings.specs.Readings.{Reading, ◌>>>◌, made, given, sign, optional, worded}
 use Rattle.c_tree.specs.Formula.{Formula}
-use Rattle.c_tree.specs.Statement.{Variable, Act, Opening, Acts, Declares, Statement, Braces, Empty, Simply, Break, Continue, Return, If, IfElse, While, Do, For, Body, Nothing}
+use Rattle.c_tree.specs.Statement.{Act, Opening, Acts, Declares, Statement, Braces, Empty, Simply, Break, Continue, Return, If, IfElse, While, Do, For, Body, Nothing}
 use Rattle.c_grammar.specs.Until.{ended}
 use Rattle.c_grammar.specs.Declarations.{expression, variable_within, declaration}
 use Rattle.c_grammar.specs.Acts.{act, act_behind}

@@ -1,11 +1,11 @@
 -- What some programs are read as.
-use Rattle.std.specs.Prelude.{◌≡◌, refl, List, [], ◌∷◌, Some, None, codes}
-use Rattle.readings.specs.Symbol.{Symbol, Fixed, Named as NamedSymbol, Number}
+use Rattle.std.specs.Prelude.{◌≡◌, refl, [], ◌∷◌, Some, None, codes}
+use Rattle.readings.specs.Symbol.{Fixed, Named as NamedSymbol, Number}
 use Rattle.c_tree.specs.declared.names.TypeWord.TheVariants as type_word
 use Rattle.c_tree.specs.declared.program.ResultWord.TheVariants as result_word
 use Rattle.c_tree.specs.declared.program.GVar.TheVariants as gvars
 use Rattle.c_tree.specs.Formula.{Numeral}
-use Rattle.c_tree.specs.Statement.{Statement, Return, Nothing, Then}
+use Rattle.c_tree.specs.Statement.{Return, Nothing, Then}
 use Rattle.c_tree.specs.Items.{Variables, Defines}
 use Rattle.readings.specs.Reading.{Found, Stuck}
 use Rattle.c_grammar.specs.ReadingStatements.{statement, block_body}

@@ -6,7 +6,7 @@ use Rattle.c_tree.specs.declared.names.TypeWord.TheVariants as type_word
 use Rattle.c_tree.specs.declared.statement.AssignMark.TheVariants as store
 use Rattle.c_tree.specs.declared.statement.StepMark.TheVariants as change
 use Rattle.c_tree.specs.Formula.{Formula, Numeral, Named, Called}
-use Rattle.c_tree.specs.Statement.{Scalar, Initial, Assign, Step, Invoke, Acts, Declares, Statement, Braces, Empty, Simply, Break, Return, If, IfElse, While, Do, For, Nothing, Declare, Then}
+use Rattle.c_tree.specs.Statement.{Scalar, Initial, Assign, Step, Invoke, Declares, Braces, Empty, Simply, Break, Return, If, IfElse, Do, For, Nothing, Declare, Then}
 use Rattle.readings.specs.Reading.{Found, Stuck}
 use Rattle.c_grammar.specs.ReadingStatements.{statement, block_body}
 

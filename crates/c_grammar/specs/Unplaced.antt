@@ -11,7 +11,6 @@ use Rattle.c_tree.specs.declared.statement.StepMark.TheVariants as change
 use Rattle.c_tree.specs.declared.program.SNum.{SNum}
 use Rattle.c_tree.specs.declared.program.GVar.{GVar}
 use Rattle.c_tree.specs.declared.program.GVar.TheVariants as gvar
-use Rattle.c_tree.specs.declared.program.Vars.{Vars}
 use Rattle.c_tree.specs.declared.program.ResultWord.{ResultWord}
 use Rattle.c_tree.specs.declared.program.ResultWord.TheVariants as result_word
 use Rattle.c_tree.specs.declared.program.Param.{Param}
