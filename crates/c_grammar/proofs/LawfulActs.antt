@@ -22,7 +22,7 @@ use Rattle.c_tree.specs.Spell.{formula_spelling, store_spelling, change_spelling
 use Rattle.c_grammar.specs.Reading.{IsEnd, IsGood}
 use Rattle.c_grammar.specs.Declarations.{expression}
 use Rattle.c_grammar.specs.Calls.{Arguments, call_of, called_within, arguments_good, IsCallOf, Alone, With, inside_call}
-use Rattle.c_grammar.specs.Acts.{Deed, Stores, Changes, done_to, DeedMark, Storing, Changing, deed_marks, behind_deed, deed, ActMark, Calling, Indexing, Doing, act_marks, behind_mark, act_behind, act, IsGoodAct, IsActEnd}
+use Rattle.c_grammar.specs.Acts.{Deed, Stores, Changes, done_to, DeedMark, Storing, Changing, deed_marks, behind_deed, deed, ActMark, Calling, Indexing, Doing, act_marks, behind_mark, act_behind, act_read, IsGoodAct, IsActEnd}
 use Rattle.c_grammar.proofs.Flat.{join4, one_node}
 use Rattle.c_grammar.proofs.LawfulExpressions.{expression_law}
 use Rattle.c_grammar.proofs.LawfulCalls.{called_law}
@@ -399,7 +399,7 @@ module _ (room : ℕ) where
   OfFirstName (Symbol.Number at value) a = ⊥
   OfFirstName (Symbol.Quoted at text) a = ⊥
 
-  act_goes : (n : ℕ) (s : Symbol) (ss : List Symbol) → act room n (s ∷ ss) ≡ picked n s ss (act_pick s)
+  act_goes : (n : ℕ) (s : Symbol) (ss : List Symbol) → act_read room n (s ∷ ss) ≡ picked n s ss (act_pick s)
   act_goes n (Symbol.Fixed at text) ss = refl
   act_goes n (Symbol.Named at text) ss = refl
   act_goes n (Symbol.Number at value) ss = refl
@@ -418,8 +418,8 @@ module _ (room : ℕ) where
   any_name = record { at = 0; text = [] }
 
   -- so simple statements are read lawfully
-  pub act_law : IsReading act_spelling (IsGoodAct room) IsActEnd (act room)
+  pub act_law : IsReading act_spelling (IsGoodAct room) IsActEnd (act_read room)
   act_law =
-      told_law act_spelling (IsGoodAct room) IsActEnd (act room) act_pick OfFirstName (λ n. refl) act_goes act_each
+      told_law act_spelling (IsGoodAct room) IsActEnd (act_read room) act_pick OfFirstName (λ n. refl) act_goes act_each
       (λ a g. let h = good_named room a g in (Symbol.Named h.0.at h.0.text, act_behind room h.0, refl, h.1))
       (Invoke (Called any_name 0 0)) (named_good room any_name (Invoke (Called any_name 0 0)) (call_alone room any_name))

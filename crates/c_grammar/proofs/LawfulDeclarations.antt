@@ -21,7 +21,7 @@ use Rattle.c_tree.specs.Spell.{number_spelling, variable_spelling, further_varia
 use Rattle.c_grammar.specs.Reading.{IsEnd, IsGood}
 use Rattle.c_grammar.specs.Words.{number}
 use Rattle.c_grammar.specs.Until.{until_spelling, until_good}
-use Rattle.c_grammar.specs.Declarations.{plain_variable, variable_within, IsPlainEnd, IsVariableEndWithin, expression, array, initial, array_from, without_initial, initial_from, variable_behind, variable, further_variables, declaration, IsGoodVariable, IsVariableEnd}
+use Rattle.c_grammar.specs.Declarations.{plain_variable, variable_within, IsPlainEnd, IsVariableEndWithin, expression, array, initial, array_from, without_initial, initial_from, variable_behind, variable_read, further_variables, declaration_read, IsGoodVariable, IsVariableEnd}
 use Rattle.c_grammar.specs.Statements.{IsDeclarationOf, inside_declaration}
 use Rattle.c_grammar.proofs.LawfulWords.{number_law}
 use Rattle.c_grammar.proofs.LawfulExpressions.{expression_law}
@@ -164,7 +164,7 @@ module _ (room : ℕ) (some : 1 ≤ room) where
   OfFirstName (Symbol.Number at value) v = ⊥
   OfFirstName (Symbol.Quoted at text) v = ⊥
 
-  variable_goes : (n : ℕ) (s : Symbol) (ss : List Symbol) → variable room n (s ∷ ss) ≡ picked n s ss (variable_pick s)
+  variable_goes : (n : ℕ) (s : Symbol) (ss : List Symbol) → variable_read room n (s ∷ ss) ≡ picked n s ss (variable_pick s)
   variable_goes n (Symbol.Fixed at text) ss = refl
   variable_goes n (Symbol.Named at text) ss = refl
   variable_goes n (Symbol.Number at value) ss = refl
@@ -185,9 +185,9 @@ module _ (room : ℕ) (some : 1 ≤ room) where
       (Symbol.Named n.at n.text, variable_behind room n, refl, inr (at, (e, record { leveled = g.leveled; at_least = omega arith; shallow = omega (arith, g.shallow) }, refl)))
   variable_from (Array n p z q) g = (Symbol.Named n.at n.text, variable_behind room n, refl, inl (inr (p, ((z, q), tt, refl))))
 
-  pub variable_law : IsReading variable_spelling (IsGoodVariable room) IsVariableEnd (variable room)
+  pub variable_law : IsReading variable_spelling (IsGoodVariable room) IsVariableEnd (variable_read room)
   variable_law =
-      told_law variable_spelling (IsGoodVariable room) IsVariableEnd (variable room) variable_pick OfFirstName (λ n. refl) variable_goes variable_each variable_from
+      told_law variable_spelling (IsGoodVariable room) IsVariableEnd (variable_read room) variable_pick OfFirstName (λ n. refl) variable_goes variable_each variable_from
       (Scalar (record { at = 0; text = [] })) (record { leveled = tt; shallow = omega arith })
 
 -- ---- with room for an initial value or without
@@ -273,7 +273,7 @@ module _ (room : ℕ) where
   )
 
   -- so declarations are read lawfully
-  pub declaration_law : (at : ℕ) → IsReading inside_declaration (IsDeclarationOf room at) Anywhere (declaration room at)
+  pub declaration_law : (at : ℕ) → IsReading inside_declaration (IsDeclarationOf room at) Anywhere (declaration_read room at)
   declaration_law at =
       made_all (declared at) parts_spelling parts_good (variable_within room >>> further_variables room) inside_declaration (IsDeclarationOf room at) Anywhere
       (same at) (parts_to at) (parts_from at)

@@ -26,7 +26,7 @@ use Rattle.c_grammar.specs.Words.{name}
 use Rattle.c_grammar.specs.Globals.{global_behind, further_globals, IsGlobalEnd}
 use Rattle.c_grammar.specs.Parameters.{parameters_spelling}
 use Rattle.c_grammar.specs.Statements.{IsGoodBody, closed_spelling}
-use Rattle.c_grammar.specs.Programs.{Signed, defined, signed, function, variables, valued_from, valued, valueless, ItemStart, Valued, Valueless, item_starts, behind_item, item, IsGoodItem}
+use Rattle.c_grammar.specs.Programs.{Signed, defined, signed, function_read, variables_read, valued_from, valued, valueless, ItemStart, Valued, Valueless, item_starts, behind_item, item_read, IsGoodItem}
 use Rattle.c_grammar.proofs.LawfulWords.{name_law}
 use Rattle.c_grammar.proofs.LawfulGlobals as globals
 use Rattle.c_grammar.proofs.LawfulGlobals.{further_one, before_mark, further_globals_law, name_of}
@@ -66,7 +66,7 @@ module _ (room : ℕ) (some : 2 ≤ room) where
     abbrev int_word : ResultWord
     int_word = result_word.Type (type_word.Int at)
 
-    function_law : (x : Name) (p : ℕ) → IsReading (λ g. beyond (inside g)) (IsMade (signed_good room) (defined int_word x p)) Anywhere (function room int_word x p)
+    function_law : (x : Name) (p : ℕ) → IsReading (λ g. beyond (inside g)) (IsMade (signed_good room) (defined int_word x p)) Anywhere (function_read room int_word x p)
     function_law x p = made_law (defined int_word x p) signed_spelling (signed_good room) (signed room) (λ g. beyond (inside g)) Anywhere (λ s. refl) signed_law
 
     abbrev Parts : Type 0
@@ -100,7 +100,7 @@ module _ (room : ℕ) (some : 2 ≤ room) where
     abbrev named_good : Name → Parts → Type 0
     named_good x y = globals.OfName x y.0
 
-    variables_law : (x : Name) → IsReading inside (IsMade (named_good x) variables_of) Anywhere (variables at x)
+    variables_law : (x : Name) → IsReading inside (IsMade (named_good x) variables_of) Anywhere (variables_read at x)
     variables_law x =
         made_law variables_of parts_spelling (named_good x) (global_behind x >>> further_globals) inside Anywhere variables_same
         (other_law parts_spelling (λ y. globals.OfName x y.0 × Any y.1) (named_good x) Anywhere Anywhere (global_behind x >>> further_globals)
@@ -120,7 +120,7 @@ module _ (room : ℕ) (some : 2 ≤ room) where
 
     valued_law : (x : Name) → IsReading inside (OfValued x) Anywhere (valued room at x)
     valued_law x =
-        by_mark_law (codes "(") (valued room at x) (variables at x) (function room int_word x) (λ n ss i. ap (valued_from room at x n ss) i) (λ n ss p rest i. ap (valued_from room at x n ss) i)
+        by_mark_law (codes "(") (valued room at x) (variables_read at x) (function_read room int_word x) (λ n ss i. ap (valued_from room at x n ss) i) (λ n ss p rest i. ap (valued_from room at x n ss) i)
         inside (OfValued x) Anywhere (IsMade (named_good x) variables_of) Anywhere (λ p g. IsMade (signed_good room) (defined int_word x p) g) (variables_law x)
         (λ p. record {
           reading = function_law x p;
@@ -199,13 +199,13 @@ module _ (room : ℕ) (some : 2 ≤ room) where
 
     -- ---- behind `void`
 
-    abbrev Void_parts : Type 0
-    Void_parts = Name × (ℕ × Signed)
+    abbrev Unvalued : Type 0
+    Unvalued = Name × (ℕ × Signed)
 
-    abbrev void_of : Void_parts → Item
+    abbrev void_of : Unvalued → Item
     void_of (x, (p, s)) = defined (result_word.Void at) x p s
 
-    abbrev void_good : Void_parts → Type 0
+    abbrev void_good : Unvalued → Type 0
     void_good y = signed_good room y.1.1
 
     void_law : IsReading tail (IsMade void_good void_of) Anywhere (valueless room at)
@@ -268,7 +268,7 @@ module _ (room : ℕ) (some : 2 ≤ room) where
       (record { written = g.written; leveled = g.leveled; shallow = omega (arith, g.shallow) })
 
   -- so globals are read lawfully
-  pub item_law : IsReading item_spelling (IsGoodItem room) Anywhere (item room)
+  pub item_law : IsReading item_spelling (IsGoodItem room) Anywhere (item_read room)
   item_law =
       worded_law item_spelling (IsGoodItem room) Anywhere item_starts (behind_item room) OfItem entries from (variables_of 0 (gvars.Scalar (any_name 0) None, ([], 0)))
       (int_good 0 _ (any_variable 0))

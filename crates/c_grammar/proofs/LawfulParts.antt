@@ -17,10 +17,10 @@ use Rattle.c_tree.specs.Depth.{variable_depth, opening_depth, statement_depth}
 use Rattle.c_tree.specs.Spell.{binary_mark, formula_spelling, act_spelling, variable_spelling, opening_spelling, statement_spelling}
 use Rattle.c_grammar.specs.Reading.{IsEnd, IsGood}
 use Rattle.c_grammar.specs.Until.{ended, ended_spelling, ended_good}
-use Rattle.c_grammar.specs.Declarations.{expression, variable_within, declaration, IsGoodVariable, IsVariableEnd, IsVariableEndWithin}
-use Rattle.c_grammar.specs.Acts.{act, IsGoodAct, IsActEnd}
+use Rattle.c_grammar.specs.Declarations.{expression, variable_within, declaration_read, IsGoodVariable, IsVariableEnd, IsVariableEndWithin}
+use Rattle.c_grammar.specs.Acts.{act_read, IsGoodAct, IsActEnd}
 use Rattle.c_grammar.specs.Statements.{IsCall, IsWritten, IsWrittenOpening, IsWrittenStatement, IsGoodStatement, IsStatementEnd, BodyPart, Declaring, Stating, part_spelling, IsGoodDeclaration, IsDeclarationOf, inside_declaration, IsGoodPart, IsPartEnd, IsGoodBody, closed_spelling}
-use Rattle.c_grammar.specs.ReadingStatements.{Condition, condition, ended_expression, opening_from, opening, Header, header, part_from, body_part, body}
+use Rattle.c_grammar.specs.ReadingStatements.{Condition, condition, ended_expression, opening_from, opening_read, Header, header, part_from, body_part, body_read}
 use Rattle.c_grammar.proofs.Flat.{flat-Binary, one_node}
 use Rattle.c_grammar.proofs.LawfulExpressions.{expression_law}
 use Rattle.c_grammar.proofs.LawfulDeclarations.{variable_within_law, ends_within, declaration_law}
@@ -128,12 +128,12 @@ module _ (room : ℕ) where
   act_plain (Step n i c) r h = record { untyped = refl; not_ended = refl; not_closed = refl }
   act_plain (Invoke x) r h = call_plain x r h
 
-  opening_law : IsReading first_spelling (IsGoodOpening room) IsOpeningEnd (opening room)
+  opening_law : IsReading first_spelling (IsGoodOpening room) IsOpeningEnd (opening_read room)
   opening_law =
-      by_mark_law (codes "int") (opening room) (made (λ a. Acts a) (act room)) (λ at. made (declares at) (variable_within room)) (λ n ss i. ap (opening_from room n ss) i)
+      by_mark_law (codes "int") (opening_read room) (made (λ a. Acts a) (act_read room)) (λ at. made (declares at) (variable_within room)) (λ n ss i. ap (opening_from room n ss) i)
       (λ n ss at rest i. ap (opening_from room n ss) i)
       first_spelling (IsGoodOpening room) IsOpeningEnd (IsMade (IsGoodAct room) (λ a. Acts a)) IsOpeningEnd (λ at o. IsMade (IsGoodVariable room) (declares at) o)
-      (made_law (λ a. Acts a) act_spelling (IsGoodAct room) (act room) first_spelling IsOpeningEnd (λ a. refl) (act_law room))
+      (made_law (λ a. Acts a) act_spelling (IsGoodAct room) (act_read room) first_spelling IsOpeningEnd (λ a. refl) (act_law room))
       (λ at. record {
         reading = made_law (declares at) variable_spelling (IsGoodVariable room) (variable_within room) (λ o. beyond (first_spelling o)) IsOpeningEnd (λ v. refl) (variable_within_law room);
         front = made_front (IsGoodVariable room) (declares at) first_spelling (Symbol.Fixed at (codes "int")) (λ v. refl);
@@ -170,13 +170,13 @@ module _ (room : ℕ) where
   opening_unmarked (Declares (type_word.Int at) v) r g = refl
 
   -- `first;` or `;`, and `simple)` or `)`
-  first_law : IsReading (ended_spelling (codes ";") first_spelling) (ended_good (IsGoodOpening room)) Anywhere (ended (codes ";") (opening room))
+  first_law : IsReading (ended_spelling (codes ";") first_spelling) (ended_good (IsGoodOpening room)) Anywhere (ended (codes ";") (opening_read room))
   first_law =
-      ended_law (codes ";") first_spelling (IsGoodOpening room) IsOpeningEnd (opening room) opening_law opening_unmarked (λ o at r g. opening_closed o at r)
+      ended_law (codes ";") first_spelling (IsGoodOpening room) IsOpeningEnd (opening_read room) opening_law opening_unmarked (λ o at r g. opening_closed o at r)
 
-  last_law : IsReading (ended_spelling (codes ")") act_spelling) (ended_good (IsGoodAct room)) Anywhere (ended (codes ")") (act room))
+  last_law : IsReading (ended_spelling (codes ")") act_spelling) (ended_good (IsGoodAct room)) Anywhere (ended (codes ")") (act_read room))
   last_law =
-      ended_law (codes ")") act_spelling (IsGoodAct room) IsActEnd (act room) (act_law room) (λ a r g. (act_plain a r g.written).not_closed) (λ a at r g. (act_closed a at r).0)
+      ended_law (codes ")") act_spelling (IsGoodAct room) IsActEnd (act_read room) (act_law room) (λ a r g. (act_plain a r g.written).not_closed) (λ a at r g. (act_closed a at r).0)
 
 abbrev pub header_spelling : Header → List Symbol
 header_spelling h =
@@ -268,11 +268,11 @@ module _ (statements : Reading Statement) where
 
     body_part_law : IsReading part_spelling good IsPartEnd (body_part room statements)
     body_part_law =
-        by_mark_law (codes "int") (body_part room statements) (made (λ s. Stating s) statements) (λ at. made (λ d. Declaring d) (declaration room at))
+        by_mark_law (codes "int") (body_part room statements) (made (λ s. Stating s) statements) (λ at. made (λ d. Declaring d) (declaration_read room at))
         (λ n ss i. ap (part_from room statements n ss) i) (λ n ss at rest i. ap (part_from room statements n ss) i)
         part_spelling good IsPartEnd (IsMade (IsGoodStatement (suc (suc room))) (λ s. Stating s)) IsPartEnd OfInt (stated_law (suc (suc room)) l)
         (λ at. record {
-          reading = made_law (λ d. Declaring d) inside_declaration (IsDeclarationOf room at) (declaration room at) inside_part IsPartEnd (λ d. refl) (declaration_law room at);
+          reading = made_law (λ d. Declaring d) inside_declaration (IsDeclarationOf room at) (declaration_read room at) inside_part IsPartEnd (λ d. refl) (declaration_law room at);
           front = λ p h. subst (λ u. part_spelling u ≡ Symbol.Fixed at (codes "int") ∷ inside_part u) h.2 (declared_front at h.0.word h.0.first h.0.rest h.0.semicolon h.1.word);
           to = λ p h. subst good h.2 h.1.good;
         })
@@ -290,7 +290,7 @@ module _ (statements : Reading Statement) where
 
 -- so what stands in a block is read lawfully, if statements are
 pub body_law : (room : ℕ) (statements : Reading Statement) → (1 ≤ room → IsReading statement_spelling (IsGoodStatement room) IsStatementEnd statements)
-    → IsReading closed_spelling (IsGoodBody room) Anywhere (body room statements)
+    → IsReading closed_spelling (IsGoodBody room) Anywhere (body_read room statements)
 body_law zero statements l =
     made_all nothing (λ q. fixed q (codes "}")) Any (sign (codes "}")) closed_spelling (IsGoodBody 0) Anywhere (λ q. refl)
     (λ q h. record { written = tt; leveled = tt; shallow = omega arith }) (λ y g. from y.0 y.1 g) (sign_law (codes "}"))

@@ -19,7 +19,7 @@ use Rattle.c_grammar.specs.Reading.{IsGood}
 use Rattle.c_grammar.specs.Until.{ended_spelling, ended_good, tailed_spelling, tailed_good}
 use Rattle.c_grammar.specs.Acts.{act_behind, IsGoodAct, IsActEnd}
 use Rattle.c_grammar.specs.Statements.{IsWrittenOpening, IsWrittenLast, IsGoodStatement, IsStatementEnd, IsGoodBody, closed_spelling}
-use Rattle.c_grammar.specs.ReadingStatements.{Condition, condition, ended_expression, Header, header, Start, Ending, Breaking, Continuing, Returning, Bracing, Branching, Looping, Doing, Counting, starts, branch, behind_start, named_statement, statement_over, statement, block_body}
+use Rattle.c_grammar.specs.ReadingStatements.{Condition, condition, ended_expression, Header, header, StatementStart, Ending, Breaking, Continuing, Returning, Bracing, Branching, Looping, Repeating, Counting, statement_starts, branch, behind_statement, body_read, named_statement, statement_over, statement_read, block_body}
 use Rattle.c_grammar.proofs.Flat.{join4, one_node}
 use Rattle.c_grammar.proofs.LawfulActs.{OfName, act_behind_law, named_good, named_front, good_named}
 use Rattle.c_grammar.proofs.LawfulParts.{condition_spelling, condition_good, condition_law, value_spelling, value_law, first_spelling, IsGoodOpening, header_spelling, header_good, header_law, one_statement, body_law}
@@ -170,7 +170,7 @@ module _ (room : ℕ) (inner : Reading Statement) (braced : Reading (Body × ℕ
   abbrev loop : ℕ → Condition × Statement → Statement
   loop at ((p, (c, q)), x) = While at p c q x
 
-  abbrev OfStart : Start → ℕ → Statement → Type 0
+  abbrev OfStart : StatementStart → ℕ → Statement → Type 0
   OfStart Ending at y = y ≡ Empty at
   OfStart Breaking at y = IsMade Any (breaks at) y
   OfStart Continuing at y = IsMade Any (continues at) y
@@ -178,11 +178,11 @@ module _ (room : ℕ) (inner : Reading Statement) (braced : Reading (Body × ℕ
   OfStart Bracing at y = IsMade (IsGoodBody (room - 1)) (braces at) y
   OfStart Branching at y = IsMade branch_good (branch at) y
   OfStart Looping at y = IsMade loop_good (loop at) y
-  OfStart Doing at y = IsMade trial_good (trial at) y
+  OfStart Repeating at y = IsMade trial_good (trial at) y
   OfStart Counting at y = IsMade count_good (count at) y
 
-  abbrev Begins : List ℕ → Start → Type 0
-  Begins text k = (at : ℕ) → Behind statement_spelling good IsStatementEnd (OfStart k at) (Symbol.Fixed at text) (behind_start room inner braced k at)
+  abbrev Begins : List ℕ → StatementStart → Type 0
+  Begins text k = (at : ℕ) → Behind statement_spelling good IsStatementEnd (OfStart k at) (Symbol.Fixed at text) (behind_statement room inner braced k at)
 
   -- ---- statements of one node or more
 
@@ -190,7 +190,7 @@ module _ (room : ℕ) (inner : Reading Statement) (braced : Reading (Body × ℕ
   ending at =
       let b = single_behind statement_spelling good (Symbol.Fixed at (codes ";")) (Empty at) refl (record { written = tt; leveled = tt; shallow = omega arith }) in
       record {
-        reading = ends_law inside (λ y. y ≡ Empty at) Anywhere IsStatementEnd (behind_start room inner braced Ending at)
+        reading = ends_law inside (λ y. y ≡ Empty at) Anywhere IsStatementEnd (behind_statement room inner braced Ending at)
             (λ y r h e. subst (λ u. IsStatementEnd u r) (sym h) (λ t. other_end t)) (λ y r h e. tt) b.reading;
         front = b.front;
         to = b.to;
@@ -278,7 +278,7 @@ module _ (room : ℕ) (inner : Reading Statement) (braced : Reading (Body × ℕ
         (then_free _ _ _ _ _ _ (sign_law (codes "while")) (marked_law (codes ";") condition_spelling (condition_good room) Anywhere (condition room) (condition_law room some) (λ c at r g. tt)))
         (λ x t r g h e i. refl)
 
-    trying : Begins (codes "do") Doing
+    trying : Begins (codes "do") Repeating
     trying at = record {
       reading = made_law (trial at) trial_spelling trial_good (inner >>> (sign (codes "while") >>> (condition room >>> sign (codes ";")))) inside IsStatementEnd (trial_same at)
           (closed_law (trial at) trial_spelling trial_good (inner >>> (sign (codes "while") >>> (condition room >>> sign (codes ";")))) (λ y t. other_end t) trial_law);
@@ -327,7 +327,7 @@ module _ (room : ℕ) (inner : Reading Statement) (braced : Reading (Body × ℕ
 -- all words for which there is room
 entries : (room : ℕ) (inner : Reading Statement) (braced : Reading (Body × ℕ)) → (1 ≤ room → IsReading statement_spelling (IsGoodStatement room) IsStatementEnd inner)
     → (1 ≤ room → IsReading closed_spelling (IsGoodBody (room - 1)) Anywhere braced)
-    → Each (Word statement_spelling (IsGoodStatement (suc room)) IsStatementEnd (behind_start room inner braced) (OfStart room inner braced)) (starts room)
+    → Each (Word statement_spelling (IsGoodStatement (suc room)) IsStatementEnd (behind_statement room inner braced) (OfStart room inner braced)) (statement_starts room)
 entries zero inner braced l m = (ending 0 inner braced, (breaking 0 inner braced, (continuing 0 inner braced, (returning 0 inner braced, tt))))
 entries (suc r) inner braced l m =
     let room : ℕ = suc r in
@@ -364,25 +364,25 @@ abbrev simply : Act × ℕ → Statement
 simply (a, q) = Simply a q
 
 -- one of this name, with at most so many nodes below the simple statement in it
-abbrev Named_good : ℕ → Name → Act × ℕ → Type 0
-Named_good room x p = OfName room x p.0
+abbrev HasName : ℕ → Name → Act × ℕ → Type 0
+HasName room x p = OfName room x p.0
 
 abbrev simple_reads : ℕ → Name → Reading Statement
 simple_reads room x = made simply (act_behind room x >>> sign (codes ";"))
 
-simple_law : (room : ℕ) (x : Name) → IsReading inside (IsMade (Named_good room x) simply) IsStatementEnd (simple_reads room x)
+simple_law : (room : ℕ) (x : Name) → IsReading inside (IsMade (HasName room x) simply) IsStatementEnd (simple_reads room x)
 simple_law room x =
-    made_law simply (λ p. beyond (act_spelling p.0) ++ fixed p.1 (codes ";")) (Named_good room x) (act_behind room x >>> sign (codes ";")) inside IsStatementEnd
+    made_law simply (λ p. beyond (act_spelling p.0) ++ fixed p.1 (codes ";")) (HasName room x) (act_behind room x >>> sign (codes ";")) inside IsStatementEnd
     (λ p. act_same p.0 p.1)
-    (closed_law simply (λ p. beyond (act_spelling p.0) ++ fixed p.1 (codes ";")) (Named_good room x) (act_behind room x >>> sign (codes ";")) (λ p t. other_end t)
+    (closed_law simply (λ p. beyond (act_spelling p.0) ++ fixed p.1 (codes ";")) (HasName room x) (act_behind room x >>> sign (codes ";")) (λ p t. other_end t)
     (marked_law (codes ";") (λ a. beyond (act_spelling a)) (OfName room x) IsActEnd (act_behind room x) (act_behind_law room x) (λ a at r g. act_closed a at r)))
 
-simple_front : (room : ℕ) (x : Name) (y : Statement) → IsMade (Named_good room x) simply y → statement_spelling y ≡ Symbol.Named x.at x.text ∷ inside y
+simple_front : (room : ℕ) (x : Name) (y : Statement) → IsMade (HasName room x) simply y → statement_spelling y ≡ Symbol.Named x.at x.text ∷ inside y
 simple_front room x y h =
     subst (λ u. statement_spelling u ≡ Symbol.Named x.at x.text ∷ inside u) h.2
     (ap (λ u. u ++ fixed h.0.1 (codes ";")) (named_front room x h.0.0 h.1) ∙ ap (λ u. Symbol.Named x.at x.text ∷ u) (sym (act_same h.0.0 h.0.1)))
 
-simple_good : (room : ℕ) (x : Name) (y : Statement) → IsMade (Named_good room x) simply y → IsGoodStatement (suc (suc room)) y
+simple_good : (room : ℕ) (x : Name) (y : Statement) → IsMade (HasName room x) simply y → IsGoodStatement (suc (suc room)) y
 simple_good room x y h =
     let g = named_good room x h.0.0 h.1 in
     subst (IsGoodStatement (suc (suc room))) h.2 (record { written = g.written; leveled = g.leveled; shallow = omega (arith, g.shallow) })
@@ -396,7 +396,7 @@ simple_pick (suc room) x = Some (simple_reads room x)
 
 abbrev OfSimple : ℕ → Name → Statement → Type 0
 OfSimple zero x y = ⊥
-OfSimple (suc room) x y = IsMade (Named_good room x) simply y
+OfSimple (suc room) x y = IsMade (HasName room x) simply y
 
 simple_goes : (room : ℕ) (x : Name) (n : ℕ) (s : Symbol) (ss : List Symbol) → named_statement room x n (s ∷ ss) ss ≡ picked n s ss (simple_pick room x)
 simple_goes zero x n s ss = refl
@@ -416,13 +416,13 @@ simple_told (suc room) a q g =
     (h.0, simple_reads room h.0, refl, ((a, q), h.1, refl))
 
 -- a word is told where there is room for it
-flat : (room : ℕ) → (looked_up (starts room) (codes ";") ≡ Some Ending) × (looked_up (starts room) (codes "break") ≡ Some Breaking)
-    × (looked_up (starts room) (codes "continue") ≡ Some Continuing) × (looked_up (starts room) (codes "return") ≡ Some Returning)
+flat : (room : ℕ) → (looked_up (statement_starts room) (codes ";") ≡ Some Ending) × (looked_up (statement_starts room) (codes "break") ≡ Some Breaking)
+    × (looked_up (statement_starts room) (codes "continue") ≡ Some Continuing) × (looked_up (statement_starts room) (codes "return") ≡ Some Returning)
 flat zero = (refl, refl, refl, refl)
 flat (suc room) = (refl, refl, refl, refl)
 
-deep : (room : ℕ) → 1 ≤ room → (looked_up (starts room) (codes "{") ≡ Some Bracing) × (looked_up (starts room) (codes "if") ≡ Some Branching)
-    × (looked_up (starts room) (codes "while") ≡ Some Looping) × (looked_up (starts room) (codes "do") ≡ Some Doing) × (looked_up (starts room) (codes "for") ≡ Some Counting)
+deep : (room : ℕ) → 1 ≤ room → (looked_up (statement_starts room) (codes "{") ≡ Some Bracing) × (looked_up (statement_starts room) (codes "if") ≡ Some Branching)
+    × (looked_up (statement_starts room) (codes "while") ≡ Some Looping) × (looked_up (statement_starts room) (codes "do") ≡ Some Repeating) × (looked_up (statement_starts room) (codes "for") ≡ Some Counting)
 deep zero some = absurd (omega (arith, some))
 deep (suc room) some = (refl, refl, refl, refl, refl)
 
@@ -439,28 +439,28 @@ module _ (room : ℕ) (inner : Reading Statement) (braced : Reading (Body × ℕ
     abbrev good_here : Statement → Type 0
     good_here = IsGoodStatement (suc room)
 
-    abbrev Of : Start → ℕ → Statement → Type 0
+    abbrev Of : StatementStart → ℕ → Statement → Type 0
     Of = OfStart room inner braced
 
     abbrev pick : Symbol → Option (Reading Statement)
-    pick (Symbol.Fixed at text) = option_map (λ k. behind_start room inner braced k at) (looked_up (starts room) text)
+    pick (Symbol.Fixed at text) = option_map (λ k. behind_statement room inner braced k at) (looked_up (statement_starts room) text)
     pick (Symbol.Named at text) = simple_pick room (record { at = at; text = text })
     pick (Symbol.Number at value) = None
     pick (Symbol.Quoted at text) = None
 
     abbrev OfFirst : Symbol → Statement → Type 0
-    OfFirst (Symbol.Fixed at text) y = OfWord Of at (looked_up (starts room) text) y
+    OfFirst (Symbol.Fixed at text) y = OfWord Of at (looked_up (statement_starts room) text) y
     OfFirst (Symbol.Named at text) y = OfSimple room (record { at = at; text = text }) y
     OfFirst (Symbol.Number at value) y = ⊥
     OfFirst (Symbol.Quoted at text) y = ⊥
 
-    word_goes : (n at : ℕ) (text : List ℕ) (ss : List Symbol) (o : Option Start)
-        → worded_from (behind_start room inner braced) n (Symbol.Fixed at text ∷ ss) at ss o ≡ picked n (Symbol.Fixed at text) ss (option_map (λ k. behind_start room inner braced k at) o)
+    word_goes : (n at : ℕ) (text : List ℕ) (ss : List Symbol) (o : Option StatementStart)
+        → worded_from (behind_statement room inner braced) n (Symbol.Fixed at text ∷ ss) at ss o ≡ picked n (Symbol.Fixed at text) ss (option_map (λ k. behind_statement room inner braced k at) o)
     word_goes n at text ss None = refl
     word_goes n at text ss (Some k) = refl
 
     goes : (n : ℕ) (s : Symbol) (ss : List Symbol) → over n (s ∷ ss) ≡ picked n s ss (pick s)
-    goes n (Symbol.Fixed at text) ss = word_goes n at text ss (looked_up (starts room) text)
+    goes n (Symbol.Fixed at text) ss = word_goes n at text ss (looked_up (statement_starts room) text)
     goes n (Symbol.Named at text) ss = simple_goes room (record { at = at; text = text }) n (Symbol.Named at text) ss
     goes n (Symbol.Number at value) ss = refl
     goes n (Symbol.Quoted at text) ss = refl
@@ -477,14 +477,14 @@ module _ (room : ℕ) (inner : Reading Statement) (braced : Reading (Body × ℕ
 
     each : (s : Symbol) (next : Reading Statement) → pick s ≡ Some next → Behind statement_spelling good_here IsStatementEnd (OfFirst s) s next
     each (Symbol.Fixed at text) next e =
-        word_each statement_spelling good_here IsStatementEnd (starts room) (behind_start room inner braced) Of (entries room inner braced l m) at text next e
+        word_each statement_spelling good_here IsStatementEnd (statement_starts room) (behind_statement room inner braced) Of (entries room inner braced l m) at text next e
     each (Symbol.Named at text) next e = simple_each at text next e
     each (Symbol.Number at value) next e = none_is_none next e
     each (Symbol.Quoted at text) next e = none_is_none next e
 
-    word_told : (text : List ℕ) (k : Start) (at : ℕ) (y : Statement) → looked_up (starts room) text ≡ Some k → Of k at y → Told pick OfFirst y
+    word_told : (text : List ℕ) (k : StatementStart) (at : ℕ) (y : Statement) → looked_up (statement_starts room) text ≡ Some k → Of k at y → Told pick OfFirst y
     word_told text k at y e h =
-        (Symbol.Fixed at text, behind_start room inner braced k at, ap (option_map (λ k. behind_start room inner braced k at)) e, subst (λ o. OfWord Of at o y) (sym e) h)
+        (Symbol.Fixed at text, behind_statement room inner braced k at, ap (option_map (λ k. behind_statement room inner braced k at)) e, subst (λ o. OfWord Of at o y) (sym e) h)
 
     -- each good statement is told by its first symbol
     told : (y : Statement) → good_here y → Told pick OfFirst y
@@ -528,7 +528,7 @@ module _ (room : ℕ) (inner : Reading Statement) (braced : Reading (Body × ℕ
           refl,
         )
     told (Do at x w p c q z) g =
-        word_told (codes "do") Doing at (Do at x w p c q z) (deep room (omega (arith, g.shallow, one_node c))).3 (
+        word_told (codes "do") Repeating at (Do at x w p c q z) (deep room (omega (arith, g.shallow, one_node c))).3 (
           (x, (w, ((p, (c, q)), z))),
           (
             record { written = g.written; leveled = g.leveled.0; shallow = omega (arith, g.shallow) },
@@ -560,20 +560,30 @@ module _ (room : ℕ) (inner : Reading Statement) (braced : Reading (Body × ℕ
 
 -- ---- statements within statements
 
+-- a statement by those of one node less, and what stands in a block
+pub statement_step : (room : ℕ) → statement_read (suc room) ≡ statement_over room (statement_read room) (block_body room)
+unfolding statement_read block_body
+statement_step room = refl
+
+pub block_step : (room : ℕ) → block_body (suc room) ≡ body_read room (statement_read room)
+unfolding statement_read block_body
+block_step room = refl
+
 -- statements no deeper than there is room, and what stands in blocks no deeper
-laws : (room : ℕ) → (1 ≤ room → IsReading statement_spelling (IsGoodStatement room) IsStatementEnd (statement room))
+laws : (room : ℕ) → (1 ≤ room → IsReading statement_spelling (IsGoodStatement room) IsStatementEnd (statement_read room))
     × (1 ≤ room → IsReading closed_spelling (IsGoodBody (room - 1)) Anywhere (block_body room))
-unfolding statement block_body
 laws zero = (λ some. absurd (omega (arith, some)), λ some. absurd (omega (arith, some)))
 laws (suc room) =
     let within = laws room in
     let less : room ≡ suc room - 1 = omega arith in (
-      λ some. over_law room (statement room) (block_body room) within.0 within.1,
-      λ some. subst (λ k. IsReading closed_spelling (IsGoodBody k) Anywhere (block_body (suc room))) less (body_law room (statement room) within.0),
+      λ some. subst (IsReading statement_spelling (IsGoodStatement (suc room)) IsStatementEnd) (sym (statement_step room))
+          (over_law room (statement_read room) (block_body room) within.0 within.1),
+      λ some. subst (λ k. IsReading closed_spelling (IsGoodBody k) Anywhere (block_body (suc room))) less
+          (subst (IsReading closed_spelling (IsGoodBody room) Anywhere) (sym (block_step room)) (body_law room (statement_read room) within.0)),
     )
 
 -- so they are read lawfully
-pub statement_law : (room : ℕ) → 1 ≤ room → IsReading statement_spelling (IsGoodStatement room) IsStatementEnd (statement room)
+pub statement_law : (room : ℕ) → 1 ≤ room → IsReading statement_spelling (IsGoodStatement room) IsStatementEnd (statement_read room)
 statement_law room some = (laws room).0 some
 
 pub block_law : (room : ℕ) → 1 ≤ room → IsReading closed_spelling (IsGoodBody (room - 1)) Anywhere (block_body room)

@@ -24,7 +24,7 @@ use Rattle.c_tree.specs.Depth.{item_depth, depth_limit}
 use Rattle.c_tree.specs.SpellGlobals.{item_spelling, spelling}
 use Rattle.c_tree.specs.SpellsTree.{SpellsItems, SpellsTree}
 use Rattle.c_tree.proofs.Back as back
-use Rattle.c_grammar.specs.Programs.{item, block_room, program, IsWrittenItem, IsGoodItem}
+use Rattle.c_grammar.specs.Programs.{item_read, block_room, program_read, IsWrittenItem, IsGoodItem}
 use Rattle.c_grammar.proofs.LawfulItems.{item_law}
 use Rattle.c_grammar.proofs.Mirrors.{items_forth, items_written}
 
@@ -77,27 +77,31 @@ from_tree : (ss : List Symbol) (c : CTree) → SpellsTree ss c → Goods (IsGood
 from_tree ss c t = (goods (items c) (items_written c) t.leveled t.shallow, t.spelled)
 
 -- what is found is the program that the symbols spell
-pub found_tree : (n : ℕ) (ss : List Symbol) (gs : List Item) (rest : List Symbol) → program n ss ≡ Found gs rest → (rest ≡ []) × SpellsTree ss (tree_of gs)
+pub found_tree : (n : ℕ) (ss : List Symbol) (gs : List Item) (rest : List Symbol) → program_read n ss ≡ Found gs rest → (rest ≡ []) × SpellsTree ss (tree_of gs)
 found_tree n ss gs rest e =
-    found_whole item_spelling (IsGoodItem block_room) Anywhere (item block_room) (item_law block_room (omega arith)) item_symbol (λ g gs. tt) SpellsTree tree_of to_tree items from_tree
+    found_whole item_spelling (IsGoodItem block_room) Anywhere (item_read block_room) (item_law block_room (omega arith)) item_symbol (λ g gs. tt) SpellsTree tree_of to_tree items from_tree
     n ss gs rest e
 
+-- so a program whose globals are found is spelled so
+pub found_items : (n : ℕ) (ss : List Symbol) (c : CTree) (rest : List Symbol) → program_read n ss ≡ Found (items c) rest → SpellsTree ss c
+found_items n ss c rest e = subst (SpellsTree ss) (back.tree_of-items c) (found_tree n ss (items c) rest e).1
+
 -- where it is stuck, the symbols before begin a program, and with the next none begins
-pub stuck_tree : (ss rest : List Symbol) → Eventually (λ n. program n ss ≡ Stuck rest) → StopsIn SpellsTree ss rest
+pub stuck_tree : (ss rest : List Symbol) → Eventually (λ n. program_read n ss ≡ Stuck rest) → StopsIn SpellsTree ss rest
 stuck_tree ss rest a =
-    stuck_whole item_spelling (IsGoodItem block_room) Anywhere (item block_room) (item_law block_room (omega arith)) item_symbol (λ g gs. tt) SpellsTree tree_of to_tree items from_tree
+    stuck_whole item_spelling (IsGoodItem block_room) Anywhere (item_read block_room) (item_law block_room (omega arith)) item_symbol (λ g gs. tt) SpellsTree tree_of to_tree items from_tree
     ss rest a
 
 -- as one reading with calls enough tells
-pub stuck_tree_once : (ss rest : List Symbol) → program (suc (suc (length ss))) ss ≡ Stuck rest → StopsIn SpellsTree ss rest
+pub stuck_tree_once : (ss rest : List Symbol) → program_read (suc (suc (length ss))) ss ≡ Stuck rest → StopsIn SpellsTree ss rest
 stuck_tree_once ss rest e =
-    stuck_once item_spelling (IsGoodItem block_room) Anywhere (item block_room) (item_law block_room (omega arith)) item_symbol (λ g gs. tt) SpellsTree tree_of to_tree items from_tree
+    stuck_once item_spelling (IsGoodItem block_room) Anywhere (item_read block_room) (item_law block_room (omega arith)) item_symbol (λ g gs. tt) SpellsTree tree_of to_tree items from_tree
     ss rest e
 
 -- any symbols spell a program, or stop to begin one
 pub some_tree : (ss : List Symbol) → ((c : CTree) × SpellsTree ss c) ⊎ ((rest : List Symbol) × StopsIn SpellsTree ss rest)
 some_tree ss =
-    some_whole item_spelling (IsGoodItem block_room) Anywhere (item block_room) (item_law block_room (omega arith)) item_symbol (λ g gs. tt) SpellsTree tree_of to_tree items from_tree ss
+    some_whole item_spelling (IsGoodItem block_room) Anywhere (item_read block_room) (item_law block_room (omega arith)) item_symbol (λ g gs. tt) SpellsTree tree_of to_tree items from_tree ss
 
 -- ---- one program
 
@@ -115,10 +119,10 @@ roomy room (g ∷ gs) w l d =
 -- globals that are read from one spelling are one
 one_list : (room : ℕ) (gs hs : List Item) → 2 ≤ room → Goods (IsGoodItem room) gs → Goods (IsGoodItem room) hs → spelling gs ≡ spelling hs → gs ≡ hs
 one_list room gs hs some g h e =
-    let a = end_complete item_spelling (IsGoodItem room) Anywhere (item room) (item_law room some) item_symbol (λ g gs. tt) gs g in
-    let b = end_complete item_spelling (IsGoodItem room) Anywhere (item room) (item_law room some) item_symbol (λ g gs. tt) hs h in
+    let a = end_complete item_spelling (IsGoodItem room) Anywhere (item_read room) (item_law room some) item_symbol (λ g gs. tt) gs g in
+    let b = end_complete item_spelling (IsGoodItem room) Anywhere (item_read room) (item_law room some) item_symbol (λ g gs. tt) hs h in
     let n : ℕ = a.0 + b.0 in
-    found_is (λ xs s. gs ≡ xs) gs hs [] [] (sym (a.1 n (omega arith)) ∙ ap (to_end (item room) n) e ∙ b.1 n (omega arith)) refl
+    found_is (λ xs s. gs ≡ xs) gs hs [] [] (sym (a.1 n (omega arith)) ∙ ap (to_end (item_read room) n) e ∙ b.1 n (omega arith)) refl
 
 -- so no two programs, however deep, have one spelling
 pub unique_tree : (c d : CTree) → All IsLeveledItem (items c) → All IsLeveledItem (items d) → spelling (items c) ≡ spelling (items d) → c ≡ d

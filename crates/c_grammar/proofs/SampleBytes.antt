@@ -12,7 +12,7 @@ use Rattle.readings.specs.Symbol.{Symbol}
 use Rattle.nml_lex.specs.Lexed.{Lexeme, Space, Word}
 use Rattle.c_lex.specs.Lexed.{HasLexemes}
 use Rattle.c_lex.specs.Sample.{word}
-use Rattle.c_grammar.specs.ReadingStatements.{statement, block_body}
+use Rattle.c_grammar.specs.ReadingStatements.{statement_read, block_body}
 use Rattle.c_grammar.specs.Trees.{IsTree, HasNoTree, IsOutsideAt}
 use Rattle.c_grammar.proofs.SomeReading.{read_none}
 
@@ -60,7 +60,7 @@ has_unended = record {
 }
 
 pub no_semicolon : HasNoTree (codes "void main(void){ out(1) } int x;") 24
-unfolding statement block_body
+unfolding statement_read block_body
 no_semicolon = read_none (codes "void main(void){ out(1) } int x;") unended (Symbol.Fixed 24 (codes "}") ∷ Symbol.Fixed 26 (codes "int") ∷ Symbol.Named 30 (codes "x") ∷ Symbol.Fixed 31 (codes ";") ∷ []) has_unended refl refl
 
 -- ---- `void main(void){ int x; x = 6 / 2; }` has a mark that no program has, at 30

@@ -80,8 +80,8 @@ abbrev pub act_behind : ℕ → Name → Reading Act
 act_behind room x = worded (act_marks room) (behind_mark room x)
 
 -- a simple statement with at most so many nodes below it
-abbrev pub act : ℕ → Reading Act
-act room n ss = read_on (name n ss) (λ x s. act_behind room x n s)
+abbrev pub act_read : ℕ → Reading Act
+act_read room n ss = read_on (name n ss) (λ x s. act_behind room x n s)
 
 -- ---- which may be read, and where they end
 

@@ -41,8 +41,8 @@ abbrev pub variable_behind : ℕ → Name → Reading Variable
 variable_behind room x n ss = initial_from room x n ss (behind (codes "=") ss)
 
 -- a variable whose initial value is of at most this depth: `NAME`, `NAME = e` or `NAME[n]`
-abbrev pub variable : ℕ → Reading Variable
-variable room n ss = read_on (name n ss) (λ x s. variable_behind room x n s)
+abbrev pub variable_read : ℕ → Reading Variable
+variable_read room n ss = read_on (name n ss) (λ x s. variable_behind room x n s)
 
 -- a variable without an initial value: `NAME` or `NAME[n]`
 abbrev pub plain_variable : Reading Variable
@@ -51,15 +51,15 @@ plain_variable n ss = read_on (name n ss) (λ x s. without_initial x n s)
 -- a variable whose initial value is of at most this depth: where there is no room for one, `=` fits nothing
 abbrev pub variable_within : ℕ → Reading Variable
 variable_within zero = plain_variable
-variable_within (suc room) = variable (suc room)
+variable_within (suc room) = variable_read (suc room)
 
 -- further variables behind commas, and the semicolon
 abbrev pub further_variables : ℕ → Reading (List (ℕ × Variable) × ℕ)
 further_variables room = until (codes ";") (sign (codes ",") >>> variable_within room)
 
 -- `v, v;` behind `int`, which stands at this place
-abbrev pub declaration : ℕ → ℕ → Reading Declaration
-declaration room at =
+abbrev pub declaration_read : ℕ → ℕ → Reading Declaration
+declaration_read room at =
     made (λ (v, (vs, q)). record { word = type_word.Int at; first = v; rest = vs; semicolon = q }) (variable_within room >>> further_variables room)
 
 -- ---- which may be read, and where they end

@@ -32,20 +32,20 @@ defined w x p ((ps, q), (l, (b, r))) = Defines (record { result = w; name = x; o
 abbrev pub signed : ℕ → Reading Signed
 signed room = parameters >>> (sign (codes "{") >>> block_body room)
 
-abbrev pub function : ℕ → ResultWord → Name → ℕ → Reading Item
-function room w x p = made (defined w x p) (signed room)
+abbrev pub function_read : ℕ → ResultWord → Name → ℕ → Reading Item
+function_read room w x p = made (defined w x p) (signed room)
 
 -- ---- globals
 
 -- global variables behind `int NAME`
-abbrev pub variables : ℕ → Name → Reading Item
-variables at x =
+abbrev pub variables_read : ℕ → Name → Reading Item
+variables_read at x =
     made (λ (v, (vs, q)). Variables (record { word = type_word.Int at; first = v; rest = vs; semicolon = q })) (global_behind x >>> further_globals)
 
 -- behind `int NAME`: the last is what stands behind a parenthesis, if that is next
 abbrev pub valued_from : ℕ → ℕ → Name → ℕ → List Symbol → Option (ℕ × List Symbol) → Read Item
-valued_from room at x n ss None = variables at x n ss
-valued_from room at x n ss (Some (p, rest)) = function room (result_word.Type (type_word.Int at)) x p n rest
+valued_from room at x n ss None = variables_read at x n ss
+valued_from room at x n ss (Some (p, rest)) = function_read room (result_word.Type (type_word.Int at)) x p n rest
 
 abbrev pub valued : ℕ → ℕ → Name → Reading Item
 valued room at x n ss = valued_from room at x n ss (behind (codes "(") ss)
@@ -69,8 +69,8 @@ behind_item room Valued at = λ n ss. read_on (name n ss) (λ x s. valued room a
 behind_item room Valueless at = valueless room at
 
 -- a global: variables, or a function whose block is of at most this depth
-abbrev pub item : ℕ → Reading Item
-item room = worded item_starts (behind_item room)
+abbrev pub item_read : ℕ → Reading Item
+item_read room = worded item_starts (behind_item room)
 
 -- ---- programs
 
@@ -79,8 +79,8 @@ abbrev pub block_room : ℕ
 block_room = depth_limit - 1
 
 -- the globals of a program, to the end of its symbols
-abbrev pub program : Reading (List Item)
-program = to_end (item block_room)
+abbrev pub program_read : Reading (List Item)
+program_read = to_end (item_read block_room)
 
 -- ---- which may be read
 

@@ -8,7 +8,7 @@ use Rattle.c_tree.specs.declared.program.Params.TheVariants as params
 use Rattle.c_tree.specs.Formula.{Numeral}
 use Rattle.c_tree.specs.Statement.{Initial, Array}
 use Rattle.readings.specs.Reading.{Found, Stuck}
-use Rattle.c_grammar.specs.Declarations.{declaration}
+use Rattle.c_grammar.specs.Declarations.{declaration_read}
 use Rattle.c_grammar.specs.Globals.{global_variable}
 use Rattle.c_grammar.specs.Parameters.{parameters}
 
@@ -16,7 +16,7 @@ abbrev name_at : ℕ → List ℕ → Name
 name_at at text = record { at = at; text = text }
 
 -- `int a = 1, b[2];`, behind its first word
-pub declared : declaration 5 0 20
+pub declared : declaration_read 5 0 20
     (NamedSymbol 4 (codes "a") ∷ Fixed 6 (codes "=") ∷ Number 8 1 ∷ Fixed 9 (codes ",") ∷ NamedSymbol 11 (codes "b") ∷ Fixed 12 (codes "[") ∷ Number 13 2
     ∷ Fixed 14 (codes "]") ∷ Fixed 15 (codes ";") ∷ [])
     ≡ Found (record {
@@ -28,13 +28,13 @@ pub declared : declaration 5 0 20
 declared = refl
 
 -- `int a b` is stuck at `b`, `int [` at the bracket, and with no room for an initial value `int a =` at the mark
-pub no_comma : declaration 5 0 20 (NamedSymbol 4 (codes "a") ∷ NamedSymbol 6 (codes "b") ∷ []) ≡ Stuck (NamedSymbol 6 (codes "b") ∷ [])
+pub no_comma : declaration_read 5 0 20 (NamedSymbol 4 (codes "a") ∷ NamedSymbol 6 (codes "b") ∷ []) ≡ Stuck (NamedSymbol 6 (codes "b") ∷ [])
 no_comma = refl
 
-pub no_name : declaration 5 0 20 (Fixed 4 (codes "[") ∷ []) ≡ Stuck (Fixed 4 (codes "[") ∷ [])
+pub no_name : declaration_read 5 0 20 (Fixed 4 (codes "[") ∷ []) ≡ Stuck (Fixed 4 (codes "[") ∷ [])
 no_name = refl
 
-pub no_room : declaration 0 0 20 (NamedSymbol 4 (codes "a") ∷ Fixed 6 (codes "=") ∷ Number 8 1 ∷ []) ≡ Stuck (Fixed 6 (codes "=") ∷ Number 8 1 ∷ [])
+pub no_room : declaration_read 0 0 20 (NamedSymbol 4 (codes "a") ∷ Fixed 6 (codes "=") ∷ Number 8 1 ∷ []) ≡ Stuck (Fixed 6 (codes "=") ∷ Number 8 1 ∷ [])
 no_room = refl
 
 -- `a = -1`, an initial value that is no number, and `a[2] = {1, -2}` with an end that lacks

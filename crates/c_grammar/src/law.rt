@@ -11,11 +11,11 @@ ghost use Rattle.c_tree.specs.Level.{IsLeveled, IsLeveledItem, unary_level, ends
 ghost use Rattle.c_tree.specs.Spell.{formula_spelling, act_spelling, statement_spelling};
 ghost use Rattle.c_tree.specs.SpellGlobals.{gvar_spelling, item_spelling, spelling};
 ghost use Rattle.c_grammar.specs.Reading.{climb, IsEnd, IsGood};
-ghost use Rattle.c_grammar.specs.Declarations.{declaration};
+ghost use Rattle.c_grammar.specs.Declarations.{declaration_read};
 ghost use Rattle.c_grammar.specs.Calls.{called, inside_call, IsCallOf};
-ghost use Rattle.c_grammar.specs.Acts.{act, act_behind, IsGoodAct, IsActEnd};
-ghost use Rattle.c_grammar.specs.ReadingStatements.{body, statement, block_body};
-ghost use Rattle.c_grammar.specs.Programs.{item, program, IsGoodItem};
+ghost use Rattle.c_grammar.specs.Acts.{act_read, act_behind, IsGoodAct, IsActEnd};
+ghost use Rattle.c_grammar.specs.ReadingStatements.{body_read, statement_read, block_body};
+ghost use Rattle.c_grammar.specs.Programs.{item_read, program_read, IsGoodItem};
 ghost use Rattle.c_tree.specs.Items.{Item, items};
 ghost use Rattle.c_tree.specs.Inverse.{tree_of};
 ghost use Rattle.c_tree.specs.declared.program.CTree.{CTree};
@@ -48,12 +48,12 @@ pub fn read_else()
 
 /// A law: where statements no deeper than `room` are read lawfully, what stands between the braces of a block is, with the second one.
 pub fn read_body()
-    ensures { (room : ℕ) (statements : Reading Statement) → (1 ≤ room → IsReading statement_spelling (IsGoodStatement room) IsStatementEnd statements) → IsReading closed_spelling (IsGoodBody room) Anywhere (body room statements) }
+    ensures { (room : ℕ) (statements : Reading Statement) → (1 ≤ room → IsReading statement_spelling (IsGoodStatement room) IsStatementEnd statements) → IsReading closed_spelling (IsGoodBody room) Anywhere (body_read room statements) }
 {}
 
 /// A law: what stands behind the word of a declaration of local variables, whose initial values are no deeper than `room`, is read lawfully.
 pub fn read_declaration()
-    ensures { (room at : ℕ) → IsReading inside_declaration (IsDeclarationOf room at) Anywhere (declaration room at) }
+    ensures { (room at : ℕ) → IsReading inside_declaration (IsDeclarationOf room at) Anywhere (declaration_read room at) }
 {}
 
 /// A law: a global variable is read lawfully, with its initial values.
@@ -73,24 +73,24 @@ pub fn read_call()
 
 /// A law: simple statements, with at most `room` nodes below them, are read lawfully.
 pub fn read_act()
-    ensures { (room : ℕ) → IsReading act_spelling (IsGoodAct room) IsActEnd (act room) }
+    ensures { (room : ℕ) → IsReading act_spelling (IsGoodAct room) IsActEnd (act_read room) }
 {}
 
 /// A law: statements no deeper than `room` are read lawfully, and what stands in blocks no deeper.
 pub fn read_statement()
-    ensures statements { (room : ℕ) → 1 ≤ room → IsReading statement_spelling (IsGoodStatement room) IsStatementEnd (statement room) }
+    ensures statements { (room : ℕ) → 1 ≤ room → IsReading statement_spelling (IsGoodStatement room) IsStatementEnd (statement_read room) }
     ensures blocks { (room : ℕ) → 1 ≤ room → IsReading closed_spelling (IsGoodBody (room - 1)) Anywhere (block_body room) }
 {}
 
 /// A law: globals are read lawfully, the blocks of functions being no deeper than `room`.
 pub fn read_item()
-    ensures { (room : ℕ) → 2 ≤ room → IsReading item_spelling (IsGoodItem room) Anywhere (item room) }
+    ensures { (room : ℕ) → 2 ≤ room → IsReading item_spelling (IsGoodItem room) Anywhere (item_read room) }
 {}
 
 /// A law: reading all symbols finds the globals of the program that they spell, and leaves none; and where it is stuck, they stop to begin one.
 pub fn read_program()
-    ensures found { (n : ℕ) (symbols : List Symbol) (gs : List Item) (rest : List Symbol) → program n symbols ≡ Found gs rest → (rest ≡ []) × SpellsTree symbols (tree_of gs) }
-    ensures stuck { (symbols rest : List Symbol) → Eventually (λ n. program n symbols ≡ Stuck rest) → StopsIn SpellsTree symbols rest }
+    ensures found { (n : ℕ) (symbols : List Symbol) (gs : List Item) (rest : List Symbol) → program_read n symbols ≡ Found gs rest → (rest ≡ []) × SpellsTree symbols (tree_of gs) }
+    ensures stuck { (symbols rest : List Symbol) → Eventually (λ n. program_read n symbols ≡ Stuck rest) → StopsIn SpellsTree symbols rest }
 {}
 
 /// A law: no symbols spell two programs, and no two programs have one spelling, however deep they are; and where the places are left aside, two
