@@ -1,9 +1,9 @@
 -- Declarations of local variables are read lawfully.
-use Rattle.std.proofs.Common.{◌≡◌, ◌⊎◌, inl, inr, ℕ, suc, ◌≤◌, List, [], ◌∷◌, ◌++◌, Option, Some, None, refl, ap, sym, ◌∙◌, subst, arith}
+use Rattle.std.proofs.Common.{◌≡◌, ◌⊎◌, inl, inr, ℕ, zero, suc, ◌≤◌, List, [], ◌∷◌, ◌++◌, Option, Some, None, refl, ap, sym, ◌∙◌, subst, arith, append_assoc}
 use Rattle.std.specs.Prelude.{codes, flat_map}
 use Rattle.c_tree.specs.declared.names.Name.{Name}
 use Rattle.c_tree.specs.declared.names.Number.{Number}
-use Rattle.c_tree.specs.declared.names.TypeWord.{TypeWord}
+use Rattle.c_tree.specs.declared.names.TypeWord.TheVariants as type_word
 use Rattle.readings.specs.Symbol.{Symbol, fixed, beyond}
 use Rattle.readings.specs.Reading.{behind}
 use Rattle.readings.specs.Readings.{Reading, ◌>>>◌, given, sign}
@@ -17,82 +17,126 @@ use Rattle.c_tree.specs.Formula.{Formula}
 use Rattle.c_tree.specs.Statement.{Variable, Scalar, Initial, Array, Declaration}
 use Rattle.c_tree.specs.Level.{AreLeveledVariables}
 use Rattle.c_tree.specs.Depth.{further_variables_depth}
-use Rattle.c_tree.specs.Spell.{number_spelling, type_spelling, variable_spelling, further_variables_spelling, declaration_spelling, formula_spelling}
+use Rattle.c_tree.specs.Spell.{number_spelling, variable_spelling, further_variables_spelling, formula_spelling}
 use Rattle.c_grammar.specs.Reading.{IsEnd, IsGood}
-use Rattle.c_grammar.specs.Words.{number, type_word_read}
+use Rattle.c_grammar.specs.Words.{number}
 use Rattle.c_grammar.specs.Until.{until_spelling, until_good}
-use Rattle.c_grammar.specs.Declarations.{expression, array, initial, array_from, without_initial, initial_from, variable_behind, variable, further_variables, declaration, IsGoodVariable, IsVariableEnd}
-use Rattle.c_grammar.specs.Statements.{IsGoodDeclaration}
-use Rattle.c_grammar.proofs.LawfulWords.{number_law, type_law}
+use Rattle.c_grammar.specs.Declarations.{plain_variable, variable_within, IsPlainEnd, IsVariableEndWithin, expression, array, initial, array_from, without_initial, initial_from, variable_behind, variable_read, further_variables, declaration_read, IsGoodVariable, IsVariableEnd}
+use Rattle.c_grammar.specs.Statements.{IsDeclarationOf, inside_declaration}
+use Rattle.c_grammar.proofs.LawfulWords.{number_law}
 use Rattle.c_grammar.proofs.LawfulExpressions.{expression_law}
 use Rattle.c_grammar.proofs.Until.{until_law}
-use Rattle.c_grammar.proofs.Flat.{join4}
+use Rattle.c_grammar.proofs.Flat.{one_node}
 
--- no array is made longer by what stands behind it, nor by a bracket a name
-abbrev IsPlainEnd : Variable → List Symbol → Type 0
-IsPlainEnd (Scalar x) r = behind (codes "[") r ≡ None
-IsPlainEnd (Initial x at e) r = Unit {0}
-IsPlainEnd (Array x p z q) r = Unit {0}
+-- ---- behind a name
+
+module _ (x : Name) where
+  abbrev inside : Variable → List Symbol
+  inside v = beyond (variable_spelling v)
+
+  -- an array
+  abbrev array_of : ℕ → Number × ℕ → Variable
+  array_of p z = Array x p z.0 z.1
+
+  array_law : (p : ℕ) → IsReading (λ v. beyond (inside v)) (IsMade Any (array_of p)) IsPlainEnd (array x p)
+  array_law p =
+      made_law (array_of p) (λ z. number_spelling z.0 ++ fixed z.1 (codes "]")) Any (number >>> sign (codes "]")) (λ v. beyond (inside v)) IsPlainEnd (λ z. refl)
+      (then_free _ _ _ _ _ _ number_law (sign_law (codes "]")))
+
+  -- a name alone, or an array
+  abbrev IsPlain : Variable → Type 0
+  IsPlain v = (v ≡ Scalar x) ⊎ ((p : ℕ) × IsMade Any (array_of p) v)
+
+  plain_law : IsReading inside IsPlain IsPlainEnd (without_initial x)
+  plain_law =
+      by_mark_law (codes "[") (without_initial x) (given (Scalar x)) (array x) (λ n ss i. ap (array_from x n ss) i) (λ n ss at rest i. ap (array_from x n ss) i)
+      inside IsPlain IsPlainEnd (λ v. v ≡ Scalar x) Anywhere (λ p v. IsMade Any (array_of p) v) (given_law inside (Scalar x) refl)
+      (λ p. record { reading = array_law p; front = made_front Any (array_of p) inside (Symbol.Fixed p (codes "[")) (λ z. refl); to = λ v h. inr (p, h) })
+      (λ v h. inl h) (λ v r h e i. subst (λ u. behind (codes "[") (inside u ++ r) ≡ None → IsPlainEnd u r) (sym h) (λ j. j) i) sorted
+    where
+      sorted : (v : Variable) → IsPlain v → ((v ≡ Scalar x) × ((r : List Symbol) → IsPlainEnd v r → Unit {0} × (behind (codes "[") (inside v ++ r) ≡ None))) ⊎ ((p : ℕ) × IsMade Any (array_of p) v)
+      sorted v (inl h) = inl (h, λ r e. (tt, subst (λ u. IsPlainEnd u r → behind (codes "[") (inside u ++ r) ≡ None) (sym h) (λ j. j) e))
+      sorted v (inr h) = inr h
+
+-- ---- a variable without an initial value
+
+abbrev plain_pick : Symbol → Option (Reading Variable)
+plain_pick (Symbol.Fixed at text) = None
+plain_pick (Symbol.Named at text) = Some (without_initial (record { at = at; text = text }))
+plain_pick (Symbol.Number at value) = None
+plain_pick (Symbol.Quoted at text) = None
+
+abbrev OfPlainName : Symbol → Variable → Type 0
+OfPlainName (Symbol.Fixed at text) v = ⊥
+OfPlainName (Symbol.Named at text) v = IsPlain (record { at = at; text = text }) v
+OfPlainName (Symbol.Number at value) v = ⊥
+OfPlainName (Symbol.Quoted at text) v = ⊥
+
+plain_goes : (n : ℕ) (s : Symbol) (ss : List Symbol) → plain_variable n (s ∷ ss) ≡ picked n s ss (plain_pick s)
+plain_goes n (Symbol.Fixed at text) ss = refl
+plain_goes n (Symbol.Named at text) ss = refl
+plain_goes n (Symbol.Number at value) ss = refl
+plain_goes n (Symbol.Quoted at text) ss = refl
+
+plain_good : (x : Name) (v : Variable) → IsPlain x v → IsGoodVariable 0 v
+plain_good x v (inl h) = subst (IsGoodVariable 0) (sym h) (record { leveled = tt; shallow = omega arith })
+plain_good x v (inr (p, m)) = subst (IsGoodVariable 0) m.2 (record { leveled = tt; shallow = omega arith })
+
+plain_front : (x : Name) (v : Variable) → IsPlain x v → variable_spelling v ≡ Symbol.Named x.at x.text ∷ inside x v
+plain_front x v (inl h) = subst (λ u. variable_spelling u ≡ Symbol.Named x.at x.text ∷ inside x u) (sym h) refl
+plain_front x v (inr (p, m)) = subst (λ u. variable_spelling u ≡ Symbol.Named x.at x.text ∷ inside x u) m.2 refl
+
+plain_each : (s : Symbol) (next : Reading Variable) → plain_pick s ≡ Some next → Behind variable_spelling (IsGoodVariable 0) IsPlainEnd (OfPlainName s) s next
+plain_each (Symbol.Fixed at text) next e = none_is_none next e
+plain_each (Symbol.Named at text) next e =
+    let x : Name = record { at = at; text = text } in
+    subst (Behind variable_spelling (IsGoodVariable 0) IsPlainEnd (IsPlain x) (Symbol.Named at text)) (some_is (without_initial x) next e)
+    (record { reading = plain_law x; front = plain_front x; to = plain_good x })
+plain_each (Symbol.Number at value) next e = none_is_none next e
+plain_each (Symbol.Quoted at text) next e = none_is_none next e
+
+plain_from : (v : Variable) → IsGoodVariable 0 v → (s : Symbol) × (next : Reading Variable) × (plain_pick s ≡ Some next) × OfPlainName s v
+plain_from (Scalar n) g = (Symbol.Named n.at n.text, without_initial n, refl, inl refl)
+plain_from (Initial n at e) g = absurd (omega (arith, g.shallow, one_node e))
+plain_from (Array n p z q) g = (Symbol.Named n.at n.text, without_initial n, refl, inr (p, ((z, q), tt, refl)))
+
+plain_variable_law : IsReading variable_spelling (IsGoodVariable 0) IsPlainEnd plain_variable
+plain_variable_law =
+    told_law variable_spelling (IsGoodVariable 0) IsPlainEnd plain_variable plain_pick OfPlainName (λ n. refl) plain_goes plain_each plain_from
+    (Scalar (record { at = 0; text = [] })) (record { leveled = tt; shallow = omega arith })
 
 module _ (room : ℕ) (some : 1 ≤ room) where
   expression_read : IsReading formula_spelling (IsGood 0 room) (IsEnd 0) (expression room)
   expression_read = expression_law 0 room (omega arith) some
 
-  -- ---- behind a name
+  -- ---- with an initial value
 
   module _ (x : Name) where
-    abbrev inside : Variable → List Symbol
-    inside v = beyond (variable_spelling v)
-
-    -- an array
-    abbrev array_of : ℕ → Number × ℕ → Variable
-    array_of p z = Array x p z.0 z.1
-
-    array_law : (p : ℕ) → IsReading (λ v. beyond (inside v)) (IsMade Any (array_of p)) IsPlainEnd (array x p)
-    array_law p =
-        made_law (array_of p) (λ z. number_spelling z.0 ++ fixed z.1 (codes "]")) Any (number >>> sign (codes "]")) (λ v. beyond (inside v)) IsPlainEnd (λ z. refl)
-        (then_free _ _ _ _ _ _ number_law (sign_law (codes "]")))
-
-    -- a name alone, or an array
-    abbrev IsPlain : Variable → Type 0
-    IsPlain v = (v ≡ Scalar x) ⊎ ((p : ℕ) × IsMade Any (array_of p) v)
-
-    plain_law : IsReading inside IsPlain IsPlainEnd (without_initial x)
-    plain_law =
-        by_mark_law (codes "[") (without_initial x) (given (Scalar x)) (array x) (λ n ss i. ap (array_from x n ss) i) (λ n ss at rest i. ap (array_from x n ss) i)
-        inside IsPlain IsPlainEnd (λ v. v ≡ Scalar x) Anywhere (λ p v. IsMade Any (array_of p) v) (given_law inside (Scalar x) refl)
-        (λ p. record { reading = array_law p; front = made_front Any (array_of p) inside (Symbol.Fixed p (codes "[")) (λ z. refl); to = λ v h. inr (p, h) })
-        (λ v h. inl h) (λ v r h e i. subst (λ u. behind (codes "[") (inside u ++ r) ≡ None → IsPlainEnd u r) (sym h) (λ j. j) i) sorted
-      where
-        sorted : (v : Variable) → IsPlain v → ((v ≡ Scalar x) × ((r : List Symbol) → IsPlainEnd v r → Unit {0} × (behind (codes "[") (inside v ++ r) ≡ None))) ⊎ ((p : ℕ) × IsMade Any (array_of p) v)
-        sorted v (inl h) = inl (h, λ r e. (tt, subst (λ u. IsPlainEnd u r → behind (codes "[") (inside u ++ r) ≡ None) (sym h) (λ j. j) e))
-        sorted v (inr h) = inr h
-
     -- or with an initial value
     abbrev initial_of : ℕ → Formula → Variable
     initial_of at e = Initial x at e
 
-    initial_law : (at : ℕ) → IsReading (λ v. beyond (inside v)) (IsMade (IsGood 0 room) (initial_of at)) IsVariableEnd (initial room x at)
-    initial_law at = made_law (initial_of at) formula_spelling (IsGood 0 room) (expression room) (λ v. beyond (inside v)) IsVariableEnd (λ e. refl) expression_read
+    initial_law : (at : ℕ) → IsReading (λ v. beyond (inside x v)) (IsMade (IsGood 0 room) (initial_of at)) IsVariableEnd (initial room x at)
+    initial_law at = made_law (initial_of at) formula_spelling (IsGood 0 room) (expression room) (λ v. beyond (inside x v)) IsVariableEnd (λ e. refl) expression_read
 
     abbrev OfName : Variable → Type 0
-    OfName v = IsPlain v ⊎ ((at : ℕ) × IsMade (IsGood 0 room) (initial_of at) v)
+    OfName v = IsPlain x v ⊎ ((at : ℕ) × IsMade (IsGood 0 room) (initial_of at) v)
 
-    behind_law : IsReading inside OfName IsVariableEnd (variable_behind room x)
+    behind_law : IsReading (inside x) OfName IsVariableEnd (variable_behind room x)
     behind_law =
         by_mark_law (codes "=") (variable_behind room x) (without_initial x) (initial room x) (λ n ss i. ap (initial_from room x n ss) i) (λ n ss at rest i. ap (initial_from room x n ss) i)
-        inside OfName IsVariableEnd IsPlain IsPlainEnd (λ at v. IsMade (IsGood 0 room) (initial_of at) v) plain_law
-        (λ at. record { reading = initial_law at; front = made_front (IsGood 0 room) (initial_of at) inside (Symbol.Fixed at (codes "=")) (λ e. refl); to = λ v h. inr (at, h) })
+        (inside x) OfName IsVariableEnd (IsPlain x) IsPlainEnd (λ at v. IsMade (IsGood 0 room) (initial_of at) v) (plain_law x)
+        (λ at. record { reading = initial_law at; front = made_front (IsGood 0 room) (initial_of at) (inside x) (Symbol.Fixed at (codes "=")) (λ e. refl); to = λ v h. inr (at, h) })
         (λ v h. inl h) ends_to sorted
       where
-        ends_to : (v : Variable) (r : List Symbol) → IsPlain v → IsPlainEnd v r → behind (codes "=") (inside v ++ r) ≡ None → IsVariableEnd v r
-        ends_to v r (inl h) e i = subst (λ u. IsPlainEnd u r → behind (codes "=") (inside u ++ r) ≡ None → IsVariableEnd u r) (sym h) (λ j k. (k, j)) e i
+        ends_to : (v : Variable) (r : List Symbol) → IsPlain x v → IsPlainEnd v r → behind (codes "=") (inside x v ++ r) ≡ None → IsVariableEnd v r
+        ends_to v r (inl h) e i = subst (λ u. IsPlainEnd u r → behind (codes "=") (inside x u ++ r) ≡ None → IsVariableEnd u r) (sym h) (λ j k. (k, j)) e i
         ends_to v r (inr (p, m)) e i = subst (λ u. IsVariableEnd u r) m.2 tt
 
         sorted : (v : Variable) → OfName v
-            → (IsPlain v × ((r : List Symbol) → IsVariableEnd v r → IsPlainEnd v r × (behind (codes "=") (inside v ++ r) ≡ None))) ⊎ ((at : ℕ) × IsMade (IsGood 0 room) (initial_of at) v)
-        sorted v (inl (inl h)) = inl (inl h, λ r e. subst (λ u. IsVariableEnd u r → IsPlainEnd u r × (behind (codes "=") (inside u ++ r) ≡ None)) (sym h) (λ j. (j.1, j.0)) e)
-        sorted v (inl (inr (p, m))) = inl (inr (p, m), λ r e. subst (λ u. IsPlainEnd u r × (behind (codes "=") (inside u ++ r) ≡ None)) m.2 (tt, refl))
+            → (IsPlain x v × ((r : List Symbol) → IsVariableEnd v r → IsPlainEnd v r × (behind (codes "=") (inside x v ++ r) ≡ None))) ⊎ ((at : ℕ) × IsMade (IsGood 0 room) (initial_of at) v)
+        sorted v (inl (inl h)) = inl (inl h, λ r e. subst (λ u. IsVariableEnd u r → IsPlainEnd u r × (behind (codes "=") (inside x u ++ r) ≡ None)) (sym h) (λ j. (j.1, j.0)) e)
+        sorted v (inl (inr (p, m))) = inl (inr (p, m), λ r e. subst (λ u. IsPlainEnd u r × (behind (codes "=") (inside x u ++ r) ≡ None)) m.2 (tt, refl))
         sorted v (inr h) = inr h
 
     -- each may be read and has its name in front
@@ -101,10 +145,10 @@ module _ (room : ℕ) (some : 1 ≤ room) where
     named_good v (inl (inr (p, m))) = subst (IsGoodVariable room) m.2 (record { leveled = tt; shallow = omega arith })
     named_good v (inr (at, m)) = subst (IsGoodVariable room) m.2 (record { leveled = m.1.leveled; shallow = omega (arith, m.1.shallow) })
 
-    named_front : (v : Variable) → OfName v → variable_spelling v ≡ Symbol.Named x.at x.text ∷ inside v
-    named_front v (inl (inl h)) = subst (λ u. variable_spelling u ≡ Symbol.Named x.at x.text ∷ inside u) (sym h) refl
-    named_front v (inl (inr (p, m))) = subst (λ u. variable_spelling u ≡ Symbol.Named x.at x.text ∷ inside u) m.2 refl
-    named_front v (inr (at, m)) = subst (λ u. variable_spelling u ≡ Symbol.Named x.at x.text ∷ inside u) m.2 refl
+    named_front : (v : Variable) → OfName v → variable_spelling v ≡ Symbol.Named x.at x.text ∷ inside x v
+    named_front v (inl (inl h)) = subst (λ u. variable_spelling u ≡ Symbol.Named x.at x.text ∷ inside x u) (sym h) refl
+    named_front v (inl (inr (p, m))) = subst (λ u. variable_spelling u ≡ Symbol.Named x.at x.text ∷ inside x u) m.2 refl
+    named_front v (inr (at, m)) = subst (λ u. variable_spelling u ≡ Symbol.Named x.at x.text ∷ inside x u) m.2 refl
 
   -- ---- a variable
 
@@ -120,7 +164,7 @@ module _ (room : ℕ) (some : 1 ≤ room) where
   OfFirstName (Symbol.Number at value) v = ⊥
   OfFirstName (Symbol.Quoted at text) v = ⊥
 
-  variable_goes : (n : ℕ) (s : Symbol) (ss : List Symbol) → variable room n (s ∷ ss) ≡ picked n s ss (variable_pick s)
+  variable_goes : (n : ℕ) (s : Symbol) (ss : List Symbol) → variable_read room n (s ∷ ss) ≡ picked n s ss (variable_pick s)
   variable_goes n (Symbol.Fixed at text) ss = refl
   variable_goes n (Symbol.Named at text) ss = refl
   variable_goes n (Symbol.Number at value) ss = refl
@@ -141,11 +185,26 @@ module _ (room : ℕ) (some : 1 ≤ room) where
       (Symbol.Named n.at n.text, variable_behind room n, refl, inr (at, (e, record { leveled = g.leveled; at_least = omega arith; shallow = omega (arith, g.shallow) }, refl)))
   variable_from (Array n p z q) g = (Symbol.Named n.at n.text, variable_behind room n, refl, inl (inr (p, ((z, q), tt, refl))))
 
-  pub variable_law : IsReading variable_spelling (IsGoodVariable room) IsVariableEnd (variable room)
+  pub variable_law : IsReading variable_spelling (IsGoodVariable room) IsVariableEnd (variable_read room)
   variable_law =
-      told_law variable_spelling (IsGoodVariable room) IsVariableEnd (variable room) variable_pick OfFirstName (λ n. refl) variable_goes variable_each variable_from
+      told_law variable_spelling (IsGoodVariable room) IsVariableEnd (variable_read room) variable_pick OfFirstName (λ n. refl) variable_goes variable_each variable_from
       (Scalar (record { at = 0; text = [] })) (record { leveled = tt; shallow = omega arith })
 
+-- ---- with room for an initial value or without
+
+-- so they are read lawfully
+pub variable_within_law : (room : ℕ) → IsReading variable_spelling (IsGoodVariable room) (IsVariableEndWithin room) (variable_within room)
+variable_within_law zero = plain_variable_law
+variable_within_law (suc room) = variable_law (suc room) (omega arith)
+
+-- an end is one whatever the room
+pub ends_within : (room : ℕ) (v : Variable) (r : List Symbol) → IsVariableEnd v r → IsVariableEndWithin room v r
+ends_within zero (Scalar x) r e = e.1
+ends_within zero (Initial x at e) r i = tt
+ends_within zero (Array x p z q) r e = tt
+ends_within (suc room) v r e = e
+
+module _ (room : ℕ) where
   -- ---- further ones, and declarations
 
   abbrev each : ℕ × Variable → List Symbol
@@ -166,8 +225,8 @@ module _ (room : ℕ) (some : 1 ≤ room) where
 
   further_variables_law : IsReading (until_spelling (codes ";") each) (until_good is_good) Anywhere (further_variables room)
   further_variables_law =
-      until_law (codes ";") each is_good (λ p r. IsVariableEnd p.1 r) (sign (codes ",") >>> variable room) (then_free _ _ _ _ _ _ (sign_law (codes ",")) variable_law).law
-      (λ p r g. refl) (λ p g. omega arith) (λ p q r g h. before_comma p.1 q.0 (variable_spelling q.1 ++ r)) (λ p at r g. before_end p.1 at r)
+      until_law (codes ";") each is_good (λ p r. IsVariableEndWithin room p.1 r) (sign (codes ",") >>> variable_within room) (then_free _ _ _ _ _ _ (sign_law (codes ",")) (variable_within_law room)).law
+      (λ p r g. refl) (λ p g. omega arith) (λ p q r g h. ends_within room p.1 _ (before_comma p.1 q.0 (variable_spelling q.1 ++ r))) (λ p at r g. ends_within room p.1 _ (before_end p.1 at r))
 
   further_spelled : (vs : List (ℕ × Variable)) → further_variables_spelling vs ≡ flat_map each vs
   further_spelled [] = refl
@@ -182,41 +241,40 @@ module _ (room : ℕ) (some : 1 ≤ room) where
   further_good ((comma, v) ∷ vs) h le = (record { leveled = h.0; shallow = omega (arith, le) }, further_good vs h.1 (omega (arith, le)))
 
   abbrev Parts : Type 0
-  Parts = TypeWord × (Variable × (List (ℕ × Variable) × ℕ))
+  Parts = Variable × (List (ℕ × Variable) × ℕ)
 
-  abbrev declared : Parts → Declaration
-  declared (w, (v, (vs, q))) = record { word = w; first = v; rest = vs; semicolon = q }
+  abbrev declared : ℕ → Parts → Declaration
+  declared at (v, (vs, q)) = record { word = type_word.Int at; first = v; rest = vs; semicolon = q }
 
   abbrev parts_good : Parts → Type 0
-  parts_good x = IsGoodVariable room x.1.0 × until_good is_good x.1.1
+  parts_good x = IsGoodVariable room x.0 × until_good is_good x.1
 
   abbrev parts_spelling : Parts → List Symbol
-  parts_spelling x = type_spelling x.0 ++ (variable_spelling x.1.0 ++ until_spelling (codes ";") each x.1.1)
+  parts_spelling x = variable_spelling x.0 ++ until_spelling (codes ";") each x.1
 
-  first_before : (v : Variable) (p : List (ℕ × Variable) × ℕ) (r : List Symbol) → IsVariableEnd v (until_spelling (codes ";") each p ++ r)
-  first_before v ([], q) r = before_end v q r
-  first_before v ((comma, w) ∷ vs, q) r = before_comma v comma (((variable_spelling w ++ flat_map each vs) ++ fixed q (codes ";")) ++ r)
+  first_before : (v : Variable) (p : List (ℕ × Variable) × ℕ) (r : List Symbol) → IsVariableEndWithin room v (until_spelling (codes ";") each p ++ r)
+  first_before v ([], q) r = ends_within room v _ (before_end v q r)
+  first_before v ((comma, w) ∷ vs, q) r = ends_within room v _ (before_comma v comma (((variable_spelling w ++ flat_map each vs) ++ fixed q (codes ";")) ++ r))
 
-  same : (x : Parts) → declaration_spelling (declared x) ≡ parts_spelling x
-  same (w, (v, (vs, q))) =
-      join4 (type_spelling w) (variable_spelling v) (further_variables_spelling vs) (fixed q (codes ";"))
-      ∙ ap (λ u. type_spelling w ++ (variable_spelling v ++ (u ++ fixed q (codes ";")))) (further_spelled vs)
+  same : (at : ℕ) (x : Parts) → inside_declaration (declared at x) ≡ parts_spelling x
+  same at (v, (vs, q)) =
+      append_assoc (variable_spelling v) (further_variables_spelling vs) (fixed q (codes ";")) ∙ ap (λ u. variable_spelling v ++ (u ++ fixed q (codes ";"))) (further_spelled vs)
 
-  parts_to : (x : Parts) → parts_good x → IsGoodDeclaration (suc (suc room)) (declared x)
-  parts_to (w, (v, (vs, q))) g =
+  parts_to : (at : ℕ) (x : Parts) → parts_good x → IsDeclarationOf room at (declared at x)
+  parts_to at (v, (vs, q)) g =
       let t = further_leveled vs g.1 in
-      record { first = g.0.leveled; rest = t.0; shallow = omega (arith, g.0.shallow, t.1) }
+      record { good = record { first = g.0.leveled; rest = t.0; shallow = omega (arith, g.0.shallow, t.1) }; word = refl }
 
-  parts_from : (d : Declaration) → IsGoodDeclaration (suc (suc room)) d → IsMade parts_good declared d
-  parts_from d g = (
-    (d.word, (d.first, (d.rest, d.semicolon))),
-    (record { leveled = g.first; shallow = omega (arith, g.shallow) }, further_good d.rest g.rest (omega (arith, g.shallow))),
-    refl,
+  parts_from : (at : ℕ) (d : Declaration) → IsDeclarationOf room at d → IsMade parts_good (declared at) d
+  parts_from at d g = (
+    (d.first, (d.rest, d.semicolon)),
+    (record { leveled = g.good.first; shallow = omega (arith, g.good.shallow) }, further_good d.rest g.good.rest (omega (arith, g.good.shallow))),
+    ap (λ w. record { word = w; first = d.first; rest = d.rest; semicolon = d.semicolon }) (sym g.word),
   )
 
   -- so declarations are read lawfully
-  pub declaration_law : IsReading declaration_spelling (IsGoodDeclaration (suc (suc room))) Anywhere (declaration room)
-  declaration_law =
-      made_all declared parts_spelling parts_good (type_word_read >>> (variable room >>> further_variables room)) declaration_spelling (IsGoodDeclaration (suc (suc room))) Anywhere
-      same parts_to parts_from
-      (then_free _ _ _ _ _ _ type_law (then_law _ _ _ _ _ _ _ _ variable_law further_variables_law (λ v p r g h e. first_before v p r)))
+  pub declaration_law : (at : ℕ) → IsReading inside_declaration (IsDeclarationOf room at) Anywhere (declaration_read room at)
+  declaration_law at =
+      made_all (declared at) parts_spelling parts_good (variable_within room >>> further_variables room) inside_declaration (IsDeclarationOf room at) Anywhere
+      (same at) (parts_to at) (parts_from at)
+      (then_law _ _ _ _ _ _ _ _ (variable_within_law room) further_variables_law (λ v p r g h e. first_before v p r))

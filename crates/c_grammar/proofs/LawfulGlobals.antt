@@ -95,13 +95,13 @@ row_nested (Some (at, p, z, zs, q)) = refl
 
 -- ---- behind a name
 module _ (x : Name) where
-  abbrev inside : GVar → List Symbol
+  abbrev pub inside : GVar → List Symbol
   inside v = beyond (gvar_spelling v)
 
-  abbrev array_of : ℕ → Number × (ℕ × Option (ℕ × List_of)) → GVar
+  abbrev pub array_of : ℕ → Number × (ℕ × Option (ℕ × List_of)) → GVar
   array_of p (z, (q, i)) = gvars.Array x p z q (row i)
 
-  abbrev scalar_of : Option (ℕ × SNum) → GVar
+  abbrev pub scalar_of : Option (ℕ × SNum) → GVar
   scalar_of i = gvars.Scalar x i
 
   -- where an array or a scalar ends, there ends what may be absent in it
@@ -140,13 +140,13 @@ module _ (x : Name) where
   scalar_law : IsReading inside (IsMade Any scalar_of) IsScalarEnd (global_scalar x)
   scalar_law = made_law scalar_of (optional_spelling (codes "=") snum_spelling) Any (optional (codes "=") snum) inside IsScalarEnd scalar_same (optional_free (codes "=") snum_spelling Anywhere snum snum_law)
 
-  abbrev OfName : GVar → Type 0
+  abbrev pub OfName : GVar → Type 0
   OfName v = IsMade Any scalar_of v ⊎ ((p : ℕ) × IsMade Any (array_of p) v)
 
   array_front : (p : ℕ) (y : Number × (ℕ × Option (ℕ × List_of))) → inside (array_of p y) ≡ Symbol.Fixed p (codes "[") ∷ beyond (inside (array_of p y))
   array_front p (z, (q, i)) = refl
 
-  behind_law : IsReading inside OfName IsGlobalEnd (global_behind x)
+  pub behind_law : IsReading inside OfName IsGlobalEnd (global_behind x)
   behind_law =
       by_mark_law (codes "[") (global_behind x) (global_scalar x) (global_array x) (λ n ss i. ap (global_from x n ss) i) (λ n ss at rest i. ap (global_from x n ss) i)
       inside OfName IsGlobalEnd (IsMade Any scalar_of) IsScalarEnd (λ p v. IsMade Any (array_of p) v) scalar_law
@@ -173,7 +173,7 @@ module _ (x : Name) where
   array_named : (p : ℕ) (y : Number × (ℕ × Option (ℕ × List_of))) → gvar_spelling (array_of p y) ≡ Symbol.Named x.at x.text ∷ inside (array_of p y)
   array_named p (z, (q, i)) = refl
 
-  named_front : (v : GVar) → OfName v → gvar_spelling v ≡ Symbol.Named x.at x.text ∷ inside v
+  pub named_front : (v : GVar) → OfName v → gvar_spelling v ≡ Symbol.Named x.at x.text ∷ inside v
   named_front v (inl h) = made_front Any scalar_of gvar_spelling (Symbol.Named x.at x.text) scalar_front v h
   named_front v (inr (p, h)) = made_front Any (array_of p) gvar_spelling (Symbol.Named x.at x.text) (array_named p) v h
 
@@ -206,18 +206,22 @@ global_each (Symbol.Named at text) next e =
 global_each (Symbol.Number at value) next e = none_is_none next e
 global_each (Symbol.Quoted at text) next e = none_is_none next e
 
+-- each has a name
+pub name_of : (v : GVar) → (x : Name) × OfName x v
+name_of (gvars.Scalar n i) = (n, inl (i, tt, refl))
+name_of (gvars.Array n p z q i) = (n, inr (p, ((z, (q, nested i)), tt, ap (λ u. gvars.Array n p z q u) (row_nested i))))
+
 global_told : (v : GVar) → Any v → (s : Symbol) × (next : Reading GVar) × (global_pick s ≡ Some next) × OfFirstName s v
-global_told (gvars.Scalar n i) g = (Symbol.Named n.at n.text, global_behind n, refl, inl (i, tt, refl))
-global_told (gvars.Array n p z q i) g = (Symbol.Named n.at n.text, global_behind n, refl, inr (p, ((z, (q, nested i)), tt, ap (λ u. gvars.Array n p z q u) (row_nested i))))
+global_told v g = let h = name_of v in (Symbol.Named h.0.at h.0.text, global_behind h.0, refl, h.1)
 
 pub global_variable_law : IsReading gvar_spelling Any IsGlobalEnd global_variable
 global_variable_law = told_law gvar_spelling Any IsGlobalEnd global_variable global_pick OfFirstName (λ n. refl) global_goes global_each global_told (gvars.Scalar (record { at = 0; text = [] }) None) tt
 
 -- further ones behind commas, and the semicolon
-abbrev further_one : ℕ × GVar → List Symbol
+abbrev pub further_one : ℕ × GVar → List Symbol
 further_one p = fixed p.0 (codes ",") ++ gvar_spelling p.1
 
-before_mark : (v : GVar) (at : ℕ) (r : List Symbol) → IsGlobalEnd v (Symbol.Fixed at (codes ",") ∷ r) × IsGlobalEnd v (Symbol.Fixed at (codes ";") ∷ r)
+pub before_mark : (v : GVar) (at : ℕ) (r : List Symbol) → IsGlobalEnd v (Symbol.Fixed at (codes ",") ∷ r) × IsGlobalEnd v (Symbol.Fixed at (codes ";") ∷ r)
 before_mark (gvars.Scalar n None) at r = ((refl, refl), (refl, refl))
 before_mark (gvars.Scalar n (Some i)) at r = (tt, tt)
 before_mark (gvars.Array n p z q None) at r = (refl, refl)

@@ -15,3 +15,15 @@ pub mod LawfulDeclarations
 pub mod LawfulGlobals
 pub mod LawfulParameters
 pub mod LawfulCalls
+pub mod Ended
+pub mod LawfulActs
+pub mod LawfulParts
+pub mod LawfulStatements
+pub mod LawfulItems
+pub mod Mirrors
+pub mod Programs
+pub mod Aside
+pub mod Inside
+pub mod OneReading
+pub mod SomeReading
+pub mod SampleBytes

@@ -1,5 +1,5 @@
 -- Reading the arguments of a call that is a statement.
-use Rattle.std.specs.Prelude.{◌≡◌, ℕ, List, Option, Some, None, codes}
+use Rattle.std.specs.Prelude.{◌≡◌, ℕ, zero, suc, List, Option, Some, None, codes}
 use Rattle.c_tree.specs.declared.names.Name.{Name}
 use Rattle.readings.specs.Symbol.{Symbol, beyond}
 use Rattle.readings.specs.Reading.{Read, behind}
@@ -30,6 +30,11 @@ called_from room x p n ss (Some (q, rest)) = given (Called x p q) n rest
 -- a call whose arguments are of at most this depth
 abbrev pub called : ℕ → Name → ℕ → Reading Formula
 called room x p n ss = called_from room x p n ss (behind (codes ")") ss)
+
+-- the same with room for none: where there is no room, what is no `)` fits nothing
+abbrev pub called_within : ℕ → Name → ℕ → Reading Formula
+called_within zero x p = made (λ q. Called x p q) (sign (codes ")"))
+called_within (suc room) x p = called (suc room) x p
 
 -- the arguments are good
 abbrev pub arguments_good : ℕ → Arguments → Type 0

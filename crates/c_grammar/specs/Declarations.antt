@@ -1,6 +1,7 @@
 -- Reading declarations of local variables from the front of a list of symbols.
-use Rattle.std.specs.Prelude.{ℕ, suc, ◌≤◌, ◌≡◌, List, Option, Some, None, codes}
+use Rattle.std.specs.Prelude.{ℕ, zero, suc, ◌≤◌, ◌≡◌, List, Option, Some, None, codes}
 use Rattle.c_tree.specs.declared.names.Name.{Name}
+use Rattle.c_tree.specs.declared.names.TypeWord.TheVariants as type_word
 use Rattle.readings.specs.Symbol.{Symbol}
 use Rattle.readings.specs.Reading.{Read, Found, read_on, behind}
 use Rattle.readings.specs.Readings.{Reading, ◌>>>◌, made, sign}
@@ -9,7 +10,7 @@ use Rattle.c_tree.specs.Statement.{Variable, Scalar, Initial, Array, Declaration
 use Rattle.c_tree.specs.Level.{IsLeveledVariable}
 use Rattle.c_tree.specs.Depth.{variable_depth}
 use Rattle.c_grammar.specs.Reading.{climb, IsEnd}
-use Rattle.c_grammar.specs.Words.{name, number, type_word_read}
+use Rattle.c_grammar.specs.Words.{name, number}
 use Rattle.c_grammar.specs.Until.{until}
 
 -- an expression of at most this depth
@@ -40,17 +41,26 @@ abbrev pub variable_behind : ℕ → Name → Reading Variable
 variable_behind room x n ss = initial_from room x n ss (behind (codes "=") ss)
 
 -- a variable whose initial value is of at most this depth: `NAME`, `NAME = e` or `NAME[n]`
-abbrev pub variable : ℕ → Reading Variable
-variable room n ss = read_on (name n ss) (λ x s. variable_behind room x n s)
+abbrev pub variable_read : ℕ → Reading Variable
+variable_read room n ss = read_on (name n ss) (λ x s. variable_behind room x n s)
+
+-- a variable without an initial value: `NAME` or `NAME[n]`
+abbrev pub plain_variable : Reading Variable
+plain_variable n ss = read_on (name n ss) (λ x s. without_initial x n s)
+
+-- a variable whose initial value is of at most this depth: where there is no room for one, `=` fits nothing
+abbrev pub variable_within : ℕ → Reading Variable
+variable_within zero = plain_variable
+variable_within (suc room) = variable_read (suc room)
 
 -- further variables behind commas, and the semicolon
 abbrev pub further_variables : ℕ → Reading (List (ℕ × Variable) × ℕ)
-further_variables room = until (codes ";") (sign (codes ",") >>> variable room)
+further_variables room = until (codes ";") (sign (codes ",") >>> variable_within room)
 
--- `int v, v;`
-abbrev pub declaration : ℕ → Reading Declaration
-declaration room =
-    made (λ (w, (v, (vs, q))). record { word = w; first = v; rest = vs; semicolon = q }) (type_word_read >>> (variable room >>> further_variables room))
+-- `v, v;` behind `int`, which stands at this place
+abbrev pub declaration_read : ℕ → ℕ → Reading Declaration
+declaration_read room at =
+    made (λ (v, (vs, q)). record { word = type_word.Int at; first = v; rest = vs; semicolon = q }) (variable_within room >>> further_variables room)
 
 -- ---- which may be read, and where they end
 
@@ -64,3 +74,14 @@ abbrev pub IsVariableEnd : Variable → List Symbol → Type 0
 IsVariableEnd (Scalar x) r = (behind (codes "=") r ≡ None) × (behind (codes "[") r ≡ None)
 IsVariableEnd (Initial x at e) r = IsEnd 0 e r
 IsVariableEnd (Array x p z q) r = Unit {0}
+
+-- the same with a variable without an initial value, which an `=` doesn't make longer
+abbrev pub IsPlainEnd : Variable → List Symbol → Type 0
+IsPlainEnd (Scalar x) r = behind (codes "[") r ≡ None
+IsPlainEnd (Initial x at e) r = Unit {0}
+IsPlainEnd (Array x p z q) r = Unit {0}
+
+-- a variable where there is so much room for its initial value
+abbrev pub IsVariableEndWithin : ℕ → Variable → List Symbol → Type 0
+IsVariableEndWithin zero = IsPlainEnd
+IsVariableEndWithin (suc room) = IsVariableEnd

@@ -6,5 +6,12 @@ pub mod Calls
 pub mod Globals
 pub mod Parameters
 pub mod Statements
+pub mod Acts
+pub mod ReadingStatements
+pub mod Programs
+pub mod Unplaced
+pub mod Trees
+pub mod SampleStatements
+pub mod SamplePrograms
 pub mod Sample
 pub mod SampleParts

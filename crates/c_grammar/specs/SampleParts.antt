@@ -8,16 +8,16 @@ use Rattle.c_tree.specs.declared.program.Params.TheVariants as params
 use Rattle.c_tree.specs.Formula.{Numeral}
 use Rattle.c_tree.specs.Statement.{Initial, Array}
 use Rattle.readings.specs.Reading.{Found, Stuck}
-use Rattle.c_grammar.specs.Declarations.{declaration}
+use Rattle.c_grammar.specs.Declarations.{declaration_read}
 use Rattle.c_grammar.specs.Globals.{global_variable}
 use Rattle.c_grammar.specs.Parameters.{parameters}
 
 abbrev name_at : ℕ → List ℕ → Name
 name_at at text = record { at = at; text = text }
 
--- `int a = 1, b[2];`
-pub declared : declaration 5 20
-    (Fixed 0 (codes "int") ∷ NamedSymbol 4 (codes "a") ∷ Fixed 6 (codes "=") ∷ Number 8 1 ∷ Fixed 9 (codes ",") ∷ NamedSymbol 11 (codes "b") ∷ Fixed 12 (codes "[") ∷ Number 13 2
+-- `int a = 1, b[2];`, behind its first word
+pub declared : declaration_read 5 0 20
+    (NamedSymbol 4 (codes "a") ∷ Fixed 6 (codes "=") ∷ Number 8 1 ∷ Fixed 9 (codes ",") ∷ NamedSymbol 11 (codes "b") ∷ Fixed 12 (codes "[") ∷ Number 13 2
     ∷ Fixed 14 (codes "]") ∷ Fixed 15 (codes ";") ∷ [])
     ≡ Found (record {
       word = type_word.Int 0;
@@ -27,12 +27,15 @@ pub declared : declaration 5 20
     }) []
 declared = refl
 
--- `int a b` is stuck at `b`, and `int [` at the bracket
-pub no_comma : declaration 5 20 (Fixed 0 (codes "int") ∷ NamedSymbol 4 (codes "a") ∷ NamedSymbol 6 (codes "b") ∷ []) ≡ Stuck (NamedSymbol 6 (codes "b") ∷ [])
+-- `int a b` is stuck at `b`, `int [` at the bracket, and with no room for an initial value `int a =` at the mark
+pub no_comma : declaration_read 5 0 20 (NamedSymbol 4 (codes "a") ∷ NamedSymbol 6 (codes "b") ∷ []) ≡ Stuck (NamedSymbol 6 (codes "b") ∷ [])
 no_comma = refl
 
-pub no_name : declaration 5 20 (Fixed 0 (codes "int") ∷ Fixed 4 (codes "[") ∷ []) ≡ Stuck (Fixed 4 (codes "[") ∷ [])
+pub no_name : declaration_read 5 0 20 (Fixed 4 (codes "[") ∷ []) ≡ Stuck (Fixed 4 (codes "[") ∷ [])
 no_name = refl
+
+pub no_room : declaration_read 0 0 20 (NamedSymbol 4 (codes "a") ∷ Fixed 6 (codes "=") ∷ Number 8 1 ∷ []) ≡ Stuck (Fixed 6 (codes "=") ∷ Number 8 1 ∷ [])
+no_room = refl
 
 -- `a = -1`, an initial value that is no number, and `a[2] = {1, -2}` with an end that lacks
 pub global_scalar_read : global_variable 20 (NamedSymbol 0 (codes "a") ∷ Fixed 2 (codes "=") ∷ Fixed 4 (codes "-") ∷ Number 5 1 ∷ [])

@@ -1,6 +1,7 @@
 -- Statements that may be read, and where they end.
-use Rattle.std.specs.Prelude.{ℕ, ◌≤◌, List, [], ◌∷◌, ◌++◌, Option, Some, None, codes}
-use Rattle.readings.specs.Symbol.{Symbol, fixed}
+use Rattle.std.specs.Prelude.{ℕ, suc, ◌≡◌, ◌≤◌, List, [], ◌∷◌, ◌++◌, Option, Some, None, codes}
+use Rattle.c_tree.specs.declared.names.TypeWord.TheVariants as type_word
+use Rattle.readings.specs.Symbol.{Symbol, fixed, beyond}
 use Rattle.readings.specs.Readings.{Reading, made}
 use Rattle.c_tree.specs.Formula.{Formula, Called, CalledWith}
 use Rattle.c_tree.specs.Statement.{Declaration, Act, Assign, Step, Invoke, Opening, Acts, Declares, Statement, Braces, Empty, Simply, Break, Continue, Return, If, IfElse, While, Do, For, Body, Nothing, Declare, Then}
@@ -83,6 +84,14 @@ pub record IsGoodDeclaration (room : ℕ) (d : Declaration) : Type 0 where
   pub first : IsLeveledVariable d.first
   pub rest : AreLeveledVariables d.rest
   pub shallow : declaration_depth d ≤ room
+
+-- one behind the word `int` at this place, whose initial values are of at most this depth, and its symbols behind that word
+pub record IsDeclarationOf (room at : ℕ) (d : Declaration) : Type 0 where
+  pub good : IsGoodDeclaration (suc (suc room)) d
+  pub word : d.word ≡ type_word.Int at
+
+abbrev pub inside_declaration : Declaration → List Symbol
+inside_declaration d = beyond (declaration_spelling d)
 
 abbrev pub IsGoodPart : ℕ → BodyPart → Type 0
 IsGoodPart room (Declaring d) = IsGoodDeclaration room d

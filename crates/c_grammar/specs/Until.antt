@@ -2,7 +2,7 @@
 use Rattle.std.specs.Prelude.{◌≡◌, ℕ, zero, suc, Bool, IsTrue, IsFalse, List, [], ◌∷◌, ◌++◌, Option, Some, None, flat_map}
 use Rattle.readings.specs.Symbol.{Symbol, fixed}
 use Rattle.readings.specs.Reading.{Read, Found, Unread, read_on, behind}
-use Rattle.readings.specs.Readings.{Reading}
+use Rattle.readings.specs.Readings.{Reading, ◌>>>◌, made, given, sign}
 use Rattle.readings.specs.Lawful.{optional_spelling}
 use Rattle.readings.specs.Whole.{Goods}
 
@@ -25,6 +25,27 @@ until_spelling text spelled (xs, at) = flat_map spelled xs ++ fixed at text
 -- each of the things may be read
 abbrev pub until_good : {A : Type 0} → (A → Type 0) → List A × ℕ → Type 0
 until_good good (xs, at) = Goods good xs
+
+-- ---- nothing, or a thing, up to a mark
+
+-- the last is what stands behind the mark, if that is next: then there is nothing before it
+abbrev pub ended_from : {A : Type 0} → List ℕ → Reading A → ℕ → List Symbol → Option (ℕ × List Symbol) → Read (Option A × ℕ)
+ended_from text reads n ss None = made (λ (x, at). (Some x, at)) (reads >>> sign text) n ss
+ended_from text reads n ss (Some (at, rest)) = given (None, at) n rest
+
+-- a thing where the mark is not next, and the mark
+abbrev pub ended : {A : Type 0} → List ℕ → Reading A → Reading (Option A × ℕ)
+ended text reads n ss = ended_from text reads n ss (behind text ss)
+
+-- the symbols of the thing, where there is one, and the mark
+abbrev pub ended_spelling : {A : Type 0} → List ℕ → (A → List Symbol) → Option A × ℕ → List Symbol
+ended_spelling text spelled (None, at) = fixed at text
+ended_spelling text spelled (Some x, at) = spelled x ++ fixed at text
+
+-- what is absent may be read
+abbrev pub ended_good : {A : Type 0} → (A → Type 0) → Option A × ℕ → Type 0
+ended_good good (None, at) = Unit {0}
+ended_good good (Some x, at) = good x
 
 -- ---- a tail behind a mark
 

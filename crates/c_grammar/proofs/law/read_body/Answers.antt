@@ -1,6 +1,6 @@
--- The parts of a block are read lawfully, if each is.
-use Rattle.c_grammar.proofs.Bodies.{closed_body_law}
+-- What stands in a block is read lawfully, if its statements are.
+use Rattle.c_grammar.proofs.LawfulParts.{body_law}
 use Rattle.c_grammar.proofs.law.read_body.Goals as goal
 
 pub returns : goal.returns
-returns c = closed_body_law
+returns c = body_law
