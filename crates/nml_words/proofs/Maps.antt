@@ -12,8 +12,7 @@ use Rattle.nml_tree.specs.Table.{Text}
 use Rattle.nml_tree.proofs.SameText.{same_text, equal_text, turned}
 use Rattle.nml_tree.proofs.Drops.{dropped}
 use Rattle.nml_words.specs.declared.span.Span.{Span}
-use Rattle.nml_words.specs.Span.{span, plus, span_given, AreGiven, args_given, with_pieces, text_span}
-use Rattle.nml_words.specs.Words.{par_spans}
+use Rattle.nml_words.specs.Span.{span, plus, span_given, AreGiven, args_given, with_pieces, text_span, par_spans}
 
 -- a name that is put into a map, and the others
 after_put : {V : Type 0} (k : Text) (v : V) (q : Text) (es : List (Text × V)) → lookup (text_eq q) (insert_entry text_eq es k v) ≡ cond (text_eq k q) (Some v) (lookup (text_eq q) es)

@@ -1,6 +1,7 @@
 -- What the code counts from the widths of parts and alternatives are the widths of the rule's images.
-use Rattle.std.proofs.Common.{ℕ, zero, suc, ◌≡◌, ◌≤◌, ◌<◌, pos, refl, sym, ◌∙◌, ap, subst, arith, Bool, true, false, List, [], ◌∷◌, map, length, slice_get, Option, Some, None, Contains, ◌⊎◌, inl, inr}
+use Rattle.std.proofs.Common.{ℕ, zero, suc, ◌≡◌, ◌≤◌, pos, refl, sym, ◌∙◌, ap, subst, arith, Bool, true, false, List, [], ◌∷◌, map, length, slice_get, Option, Some, None, Contains, ◌⊎◌, inl, inr}
 use Rattle.std.specs.Prelude.{cond, unwrap_or}
+use Rattle.std.proofs.lemmas.Bool.{cases_lt}
 use Rattle.std.specs.Map.{lookup}
 use Rattle.nk_base.specs.Text.{text_eq}
 use Rattle.nk_base.specs.Number.{width_of}
@@ -16,8 +17,9 @@ use Rattle.nml_tree.specs.ImageWidth.{pieces_width, width_given, text_width}
 use Rattle.nml_words.proofs.TextWidths.{widths, image_text_width, below_width}
 use Rattle.nml_tree.proofs.Height.{picked}
 use Rattle.nml_widths.proofs.ModeFits.{zero_in}
+use Rattle.nml_upward.proofs.Upward.{behind}
 use Rattle.nml_words.specs.declared.span.Span.{Span}
-use Rattle.nml_words.specs.Span.{span, joined, Spans, IsSpan, span_given, text_span, with_alternatives}
+use Rattle.nml_words.specs.Span.{span, joined, Spans, IsSpan, span_given, text_span, with_alternatives, par_spans}
 
 -- one set of derivations for another, with images as wide
 pub same_spans : (P Q : Derivation → Type 0) (s : Span) → ((x : Derivation) → P x → (y : Derivation) × Q y × (length (image y) ≡ length (image x))) → ((y : Derivation) → Q y → (x : Derivation) × P x × (length (image y) ≡ length (image x))) → Spans P s → Spans Q s
@@ -27,19 +29,14 @@ same_spans P Q s forth back h = record {
   between = λ y q. let x = back y q in let b = h.between x.0 x.1 in (omega (arith, b.0, x.2), omega (arith, b.1, x.2));
 }
 
-le_or_lt : (a b : ℕ) → (a ≤ b) ⊎ (b < a)
-le_or_lt zero b = inl (omega arith)
-le_or_lt (suc a) zero = inr (omega arith)
-le_or_lt (suc a) (suc b) = elim (le_or_lt a b) [ inl h ↦ inl (omega (arith, h)) | inr h ↦ inr (omega (arith, h)) ]
-
 -- of two sets
 join_spans : (P Q : Derivation → Type 0) (a b : Span) → Spans P a → Spans Q b → Spans (λ x. P x ⊎ Q x) (joined a b)
 join_spans P Q a b h k = record {
-  lowest = elim (le_or_lt a.least b.least) [
+  lowest = elim (cases_lt a.least b.least) [
     | inl low ↦ (let l = h.lowest.2 in (h.lowest.0, inl h.lowest.1, omega (arith, low, l)))
     | inr low ↦ (let l = k.lowest.2 in (k.lowest.0, inr k.lowest.1, omega (arith, low, l)))
   ];
-  highest = elim (le_or_lt b.most a.most) [
+  highest = elim (cases_lt b.most a.most) [
     | inl low ↦ (let l = h.highest.2 in (h.highest.0, inl h.highest.1, omega (arith, low, l)))
     | inr low ↦ (let l = k.highest.2 in (k.highest.0, inr k.highest.1, omega (arith, low, l)))
   ];
@@ -150,9 +147,6 @@ HasWidth t None n = ⊥
 HasWidth t (Some (Parameter.Field ty)) n = n ≡ width_of ty
 HasWidth t (Some (Parameter.Part b)) n = (x : Derivation) × IsDerivation t b x × (length (image x) ≡ n)
 
-behind : (p : Par) (pars : List Par) (q : Par) → Contains pars q → Contains (p ∷ pars) q
-behind p pars q c = (suc c.0, omega (arith, c.1), c.2)
-
 -- arguments of these widths
 filled : (t : Table) (pars : List Par) (width : Par → ℕ) → ((p : Par) → Contains pars p → HasWidth t (parameter_of t p.ty) (width p)) → (args : Arguments) × Fill t pars args × (widths (images args) ≡ par_widths width pars)
 filled t [] width has = (NoMore, refl, refl)
@@ -199,9 +193,6 @@ filled_between (Field name ty z args) t pars given each h =
     rw (h.2, below_width (width_of ty)) ((h.3, omega (arith, low), more.0), (sym h.3, omega (arith, high), more.1))
 
 -- what is given by names, and its least and greatest
-abbrev par_spans : (Par → Span) → List Par → List (Text × Span)
-par_spans given pars = map (λ p. (p.name.text, given p)) pars
-
 chosen_span : (f : Span → ℕ) (b : Bool) (s : Span) (o : Option Span) (p : Option ℕ) → f (unwrap_or o (span 0 0)) ≡ unwrap_or p 0 → f (unwrap_or (cond b (Some s) o) (span 0 0)) ≡ unwrap_or (cond b (Some (f s)) p) 0
 chosen_span f true s o p h = refl
 chosen_span f false s o p h = h

@@ -2,6 +2,7 @@
 use Rattle.std.specs.Prelude.{ℕ, ◌≡◌, ◌+◌, ◌≤◌, min, max, List, [], ◌∷◌, map, length, unwrap_or}
 use Rattle.std.specs.Map.{lookup}
 use Rattle.nk_base.specs.Text.{text_eq}
+use Rattle.nml_tree.specs.declared.tree.Par.{Par}
 use Rattle.nml_tree.specs.declared.attributes.Arg.{Arg}
 use Rattle.nml_tree.specs.declared.attributes.Template.{Template}
 use Rattle.nml_tree.specs.declared.attributes.Template.TheVariants as template
@@ -33,6 +34,10 @@ pub record Spans (Q : Derivation → Type 0) (s : Span) : Type 0 where
 -- the widths of a rule's images
 abbrev pub IsSpan : Table → Text → Span → Type 0
 IsSpan t name s = Spans (IsDerivation t name) s
+
+-- each parameter's by its name
+abbrev pub par_spans : (Par → Span) → List Par → List (Text × Span)
+par_spans given pars = map (λ p. (p.name.text, given p)) pars
 
 -- what a parameter has, by its name
 abbrev pub span_given : List (Text × Span) → Text → Span

@@ -15,7 +15,7 @@ use Rattle.nml_known.specs.declared.known.Parameter.TheVariants as parameter
 use Rattle.nml_names.specs.Graphs.{StandsBefore}
 use Rattle.nml_upward.specs.Upward.{IsRule, HasNumber}
 use Rattle.nml_words.specs.declared.span.Span.{Span}
-use Rattle.nml_words.specs.Span.{span, IsSpan, span_given, text_span, with_alternatives}
+use Rattle.nml_words.specs.Span.{span, IsSpan, par_spans, span_given, text_span, with_alternatives}
 
 -- what stands at this number
 abbrev pub span_at : List Span → ℕ → Span
@@ -34,10 +34,6 @@ parameter_span spans (Some (parameter.Part n)) = span_at spans n
 -- the same of a parameter as it is written
 abbrev pub par_span : Desc → List Span → Par → Span
 par_span d spans p = parameter_span spans (option_map (parameter_told d) (parameter_of (table d) p.ty))
-
--- each parameter's by its name
-abbrev pub par_spans : (Par → Span) → List Par → List (Text × Span)
-par_spans given pars = map (λ p. (p.name.text, given p)) pars
 
 -- a rule's, from those of the rules that it names
 abbrev pub item_span : Desc → List Span → Item → Span

@@ -2,9 +2,9 @@
 
 ghost use Rattle.std.specs.Prelude.{◌≡◌, ◌∷◌, [], List, ℕ, map, IfOk, OnOk};
 ghost use Rattle.nml_tree.specs.Table.{pars_of};
-ghost use Rattle.nml_words.specs.Span.{AreGiven};
+ghost use Rattle.nml_words.specs.Span.{AreGiven, par_spans};
 ghost use Rattle.nml_words.specs.Words as spec;
-ghost use Rattle.nml_words.specs.Words.{par_span, par_spans};
+ghost use Rattle.nml_words.specs.Words.{par_span};
 ghost use Rattle.nml_words.specs.declared.span.Span.{Span};
 
 use crate::span::Span;

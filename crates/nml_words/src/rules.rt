@@ -6,9 +6,9 @@ ghost use Rattle.nml_names.specs.Graphs.{IsOrder};
 ghost use Rattle.nml_tree.specs.Refused.{IsFreeBelow};
 ghost use Rattle.nml_tree.specs.Table.{pars_of};
 ghost use Rattle.nml_words.specs.Span as span;
-ghost use Rattle.nml_words.specs.Span.{span_given, with_alternatives};
+ghost use Rattle.nml_words.specs.Span.{span_given, with_alternatives, par_spans};
 ghost use Rattle.nml_words.specs.Words as spec;
-ghost use Rattle.nml_words.specs.Words.{par_span, par_spans, AreSpans};
+ghost use Rattle.nml_words.specs.Words.{par_span, AreSpans};
 
 use crate::pars::{span_named, spans_of};
 use crate::span::Span;

@@ -1,6 +1,6 @@
 use Rattle.std.proofs.Common.{drop, map}
-use Rattle.nml_words.specs.Span.{AreGiven}
-use Rattle.nml_words.specs.Words.{par_span, par_spans}
+use Rattle.nml_words.specs.Span.{AreGiven, par_spans}
+use Rattle.nml_words.specs.Words.{par_span}
 use Rattle.nml_words.proofs.pars.put_rest.Given as goal
 
 -- the parameters from here on

@@ -1,8 +1,8 @@
 use Rattle.std.proofs.Common.{sym, subst, Option}
 use Rattle.nml_tree.specs.declared.tree.Pars.{Pars}
 use Rattle.nml_tree.specs.Table.{pars_of}
-use Rattle.nml_words.specs.Span.{AreGiven}
-use Rattle.nml_words.specs.Words.{par_span, par_spans}
+use Rattle.nml_words.specs.Span.{AreGiven, par_spans}
+use Rattle.nml_words.specs.Words.{par_span}
 use Rattle.nml_words.proofs.Maps.{first_given}
 use Rattle.nml_words.proofs.pars.spans_of.Goals as goal
 

@@ -1,6 +1,7 @@
 use Rattle.std.proofs.Common.{◌≡◌, subst, IfOk}
 use Rattle.nml_tree.specs.Table.{pars_of}
-use Rattle.nml_words.specs.Words.{par_span, par_spans}
+use Rattle.nml_words.specs.Span.{par_spans}
+use Rattle.nml_words.specs.Words.{par_span}
 use Rattle.nml_words.proofs.Maps.{same_text_span}
 use Rattle.nml_words.proofs.rules.and_span.Goals as goal
 
