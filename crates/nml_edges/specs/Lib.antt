@@ -1,0 +1,2 @@
+pub mod Glyph
+pub mod Summary
