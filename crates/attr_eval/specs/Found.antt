@@ -1,26 +1,13 @@
--- A piece of a string, and a parameter by its name.
-use Rattle.std.specs.Prelude.{◌≡◌, ◌<◌, ℕ, Bool, true, false, List, ◌∷◌, map, slice_get, Some}
+-- A parameter by its name, and what it gives.
+use Rattle.std.specs.Prelude.{◌≡◌, ◌<◌, ℕ, Bool, true, false, List, map, slice_get, Some}
 use Rattle.nk_base.specs.Text.{text_eq}
 use Rattle.nml_tree.specs.declared.attributes.Arg.{Arg}
 use Rattle.nml_tree.specs.declared.tree.Par.{Par}
-use Rattle.nml_tree.specs.Attribute as attribute
-use Rattle.nml_tree.specs.Attribute.{pieces}
 use Rattle.nml_tree.specs.Derivation.{Arguments}
 use Rattle.nml_tree.specs.Image.{images}
 use Rattle.nml_tree.specs.Syntax.{syntaxes}
 use Rattle.nml_tree.specs.Table.{Text}
 use Rattle.nml_tree.specs.Template.{given}
-use Rattle.attr_eval.specs.declared.piece.Element.{Element}
-use Rattle.attr_eval.specs.declared.piece.Element.TheVariants as piece
-
--- the piece of a string, whatever digits and letter a directive has
-abbrev pub IsElement : Element → attribute.FormatPiece → Type 0
-IsElement (piece.Letter c) q = q ≡ attribute.Letter c
-IsElement piece.Directive q = (digits : List ℕ) × (letter : ℕ) × (q ≡ attribute.Directive digits letter)
-
--- the string begins with the piece, and these are the pieces behind it
-abbrev pub Begins : Element → List ℕ → List ℕ → Type 0
-Begins p rest text = (q : attribute.FormatPiece) × IsElement p q × (pieces text ≡ q ∷ pieces rest)
 
 -- no parameter before this number has the name
 abbrev pub Other : Text → List Par → ℕ → Type 0

@@ -3,7 +3,6 @@
 
 mod laws;
 mod operate;
-mod piece;
 mod run;
 mod shape;
 mod skip;

@@ -1,7 +1,7 @@
 //! The syntax of a derivation.
 
 ghost use Rattle.std.specs.Prelude.{◌≡◌, ◌∷◌, ◌++◌, [], ℕ, ℤ, List, codes, length, map, Some, IfOk, OnOk};
-ghost use Rattle.attr_eval.specs.Found.{IsElement, text_given};
+ghost use Rattle.attr_eval.specs.Found.{text_given};
 ghost use Rattle.attr_eval.specs.Walks.{Walks, WalksAll};
 ghost use Rattle.nml_tree.specs.Attribute as attribute;
 ghost use Rattle.nml_tree.specs.Attribute.{pieces};
@@ -10,12 +10,13 @@ ghost use Rattle.nml_tree.specs.Syntax.{syntax_of, syntaxes};
 ghost use Rattle.nml_tree.specs.Table.{entries, pars_of, table};
 ghost use Rattle.nml_tree.specs.Template.{given, put_in, text_of};
 ghost use Rattle.nml_tree.specs.Walk.{IsWalkOf};
+ghost use Rattle.nml_upward.specs.Piece.{IsElement};
 
-use crate::piece::{Element, next_piece};
 use crate::skip::skip_pars;
 use crate::turn::{Turn, first_par, first_turn, part_of};
 use nk_base::{Memory, Text, dec};
 use nml_tree::{Arg, Deriv, Item, Pars, Template, Typed};
+use nml_upward::{Element, next_piece};
 use std::alloc::Global;
 
 /// The syntax of the derivation of `instruction` that these picks and fields write: a list of characters, each field in decimal.

@@ -1,7 +1,7 @@
 //! The image of a derivation.
 
 ghost use Rattle.std.specs.Prelude.{◌≡◌, ◌∷◌, [], ℕ, ℤ, List, codes, length, map, Some, MatchOption};
-ghost use Rattle.attr_eval.specs.Found.{IsFirst, IsElement, Other, bits_given};
+ghost use Rattle.attr_eval.specs.Found.{IsFirst, Other, bits_given};
 ghost use Rattle.attr_eval.specs.Run.{pushed};
 ghost use Rattle.attr_eval.specs.Walks.{Walks, WalksAll};
 ghost use Rattle.nml_tree.specs.Attribute as attribute;
@@ -12,14 +12,15 @@ ghost use Rattle.nml_tree.specs.Refused.{IsImageOf};
 ghost use Rattle.nml_tree.specs.Table.{entries, pars_of, table};
 ghost use Rattle.nml_tree.specs.Template.{given, put_in, text_of};
 ghost use Rattle.nml_tree.specs.Walk.{IsWalkOf};
+ghost use Rattle.nml_upward.specs.Piece.{IsElement};
 
-use crate::piece::{Element, next_piece};
 use crate::run::{Run, push_number};
 use crate::skip::skip_pars;
 use crate::turn::{Turn, first_par, first_turn, part_of};
 use nk_base::Bits;
 use nml_state::type_value;
 use nml_tree::{Arg, Deriv, Item, Pars, Template, Typed};
+use nml_upward::{Element, next_piece};
 
 /// The image of the derivation of `instruction` that these picks and fields write: the bits of an instruction's word, the highest first.
 ///

@@ -58,7 +58,7 @@ module _ (d : Desc) where
       by None e h = absurd cc
       by (Some i) e h = (i, e, h)
 
-  part_is_rule : (i : Item) (x : Declared) → rule_part i ≡ Some x → is_rule i ≡ true
+  pub part_is_rule : (i : Item) (x : Declared) → rule_part i ≡ Some x → is_rule i ≡ true
   part_is_rule (item.Let at n equals minus z) x h = absurd cc
   part_is_rule (item.Type at n equals e) x h = absurd cc
   part_is_rule (item.Storage s) x h = absurd cc
@@ -76,7 +76,7 @@ module _ (d : Desc) where
   rule_has_part (item.OpRule r) h = (_, refl, λ name. refl)
   rule_has_part (item.ModeRule r) h = (_, refl, λ name. refl)
 
-  starts : (a b : Text) → IsBelow t a b → (i : Item) × (first_item d.items a ≡ Some i) × (is_rule i ≡ true)
+  pub starts : (a b : Text) → IsBelow t a b → (i : Item) × (first_item d.items a ≡ Some i) × (is_rule i ≡ true)
   starts a b (reach.Alternative mode ns is c) = let s = some_item a (Or mode ns) (sym (declared_rule d a) ∙ ap (option_and_then only_rule) is) in (s.0, s.1, part_is_rule s.0 _ s.2)
   starts a b (reach.Part r p is c e) = let s = some_item a (And r) (sym (declared_rule d a) ∙ ap (option_and_then only_rule) is) in (s.0, s.1, part_is_rule s.0 _ s.2)
 
@@ -89,7 +89,7 @@ module _ (d : Desc) where
     pub stands : Stands d.items 0 a n
     pub rule : is_rule stands.what ≡ true
 
-  rule_at : (a : Text) → ((i : Item) × (first_item d.items a ≡ Some i) × (is_rule i ≡ true)) → (n : ℕ) × RuleAt a n
+  pub rule_at : (a : Text) → ((i : Item) × (first_item d.items a ≡ Some i) × (is_rule i ≡ true)) → (n : ℕ) × RuleAt a n
   rule_at a s =
       let r = numbered d.items 0 a s.0 s.1 in
       let same : r.1.what ≡ s.0 = some_same _ _ (sym r.1.first ∙ s.1) in
@@ -132,7 +132,7 @@ module _ (d : Desc) where
       let e : rule_of r.pars (Some (formula r.value)) r.attrs ≡ rule = cc in
       parts_have f [] (pars_of r.pars) p m (subst (λ (z : Rule). Contains z.pars p) (sym e) c) (part_below p b m o s)
 
-  step_forth : (a b : Text) (n m : ℕ) → IsBelow t a b → RuleAt a n → RuleAt b m → Edge g n m
+  pub step_forth : (a b : Text) (n m : ℕ) → IsBelow t a b → RuleAt a n → RuleAt b m → Edge g n m
   step_forth a b n m (reach.Alternative mode ns is c) s u =
       rw (row_map (below f) d.items n s.stands.what s.stands.at) (or_below s.stands.what b m mode ns (or_here a s.stands.what mode ns s.stands.first is) c u)
   step_forth a b n m (reach.Part r p is c e) s u =
@@ -249,12 +249,12 @@ module _ (d : Desc) where
   }
 
   -- the numbers are those of items
-  below_length : (items : List Item) (n : ℕ) (i : Item) → slice_get items n ≡ Some i → n < length items
+  pub below_length : (items : List Item) (n : ℕ) (i : Item) → slice_get items n ≡ Some i → n < length items
   below_length [] n i h = absurd cc
   below_length (x ∷ items) zero i h = omega arith
   below_length (x ∷ items) (suc n) i h = let l = below_length items n i h in omega (arith, l)
 
-  length_rows : (h : Item → List ℕ) (items : List Item) → length (map h items) ≡ length items
+  pub length_rows : (h : Item → List ℕ) (items : List Item) → length (map h items) ≡ length items
   length_rows h [] = refl
   length_rows h (x ∷ items) = ap suc (length_rows h items)
 

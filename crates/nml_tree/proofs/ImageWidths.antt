@@ -17,7 +17,7 @@ use Rattle.nml_tree.specs.Image.{bit, image, images}
 use Rattle.nml_tree.specs.ImageWidth.{pieces_width, width_given, text_width, parameter_width, rule_width}
 
 -- each name with how many bits it gives
-abbrev widths : List (Text × List Bool) → List (Text × ℕ)
+abbrev pub widths : List (Text × List Bool) → List (Text × ℕ)
 widths xs = map (λ x. (x.0, length x.1)) xs
 
 chosen_width : (b : Bool) (x : List Bool) (o : Option (List Bool)) (p : Option ℕ) → length (unwrap_or o []) ≡ unwrap_or p 0
@@ -38,12 +38,12 @@ put_width (Directive digits k ∷ ps) ((comma, a) ∷ args) xs =
     let long = length-append (given xs a.name.text) (put_in bit ps (map (λ (comma, b). given xs b.name.text) args)) in
     omega (arith, long, given_width xs a.name.text, put_width ps args xs)
 
-image_text_width : (text : Template) (xs : List (Text × List Bool)) → length (text_of bit xs text) ≡ text_width (widths xs) text
+pub image_text_width : (text : Template) (xs : List (Text × List Bool)) → length (text_of bit xs text) ≡ text_width (widths xs) text
 image_text_width (template.Plain q) xs = length-map q.text bit
 image_text_width (template.Part n dot a) xs = given_width xs n.text
 image_text_width (template.Format at p q args r) xs = put_width (pieces q.text) args xs
 
-below_width : (n v : ℕ) → length (bits_below n v) ≡ n
+pub below_width : (n v : ℕ) → length (bits_below n v) ≡ n
 below_width zero v = refl
 below_width (suc n) v = omega (arith, below_width n v)
 

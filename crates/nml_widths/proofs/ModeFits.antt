@@ -81,7 +81,7 @@ stand_behind zs n y ys h k low =
 pub stand_first : (zs : List ℤ) (n : ℕ) (y : ℤ) (ys : List ℤ) → StandAt zs n (y ∷ ys) → number_at zs n ≡ y
 stand_first zs n y ys h = let e : n ≡ n + 0 = omega arith in ap (number_at zs) e ∙ h 0 (omega arith)
 
-zero_in : (ty : Ty) → InRange ty (pos 0)
+pub zero_in : (ty : Ty) → InRange ty (pos 0)
 zero_in tys.Bool = (omega (arith, ints), omega (arith, ints))
 zero_in (tys.Card n) = (omega (arith, ints), omega (arith, ints, pow_pos n))
 zero_in (tys.Int n) = (omega (arith, ints, pow_pos (n - 1)), omega (arith, ints, pow_pos (n - 1)))

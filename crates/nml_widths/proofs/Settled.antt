@@ -195,7 +195,7 @@ part_named t name r (Some (Declared.Out ty)) is h = absurd cc
 part_named t name r (Some (Declared.Or mode names)) is h = let e : name ≡ r = cc in let g : is_rule (declared t name) ≡ true = rw is refl in subst (λ x. is_rule (declared t x) ≡ true) e g
 part_named t name r (Some (Declared.And rule)) is h = let e : name ≡ r = cc in let g : is_rule (declared t name) ≡ true = rw is refl in subst (λ x. is_rule (declared t x) ≡ true) e g
 
-part_rule : (t : Table) (e : TypeExpr) (r : Text) → parameter_of t e ≡ Some (Parameter.Part r) → is_rule (declared t r) ≡ true
+pub part_rule : (t : Table) (e : TypeExpr) (r : Text) → parameter_of t e ≡ Some (Parameter.Part r) → is_rule (declared t r) ≡ true
 part_rule t (type_expr.Bool at) r h = absurd (no_part (type_of t (type_expr.Bool at)) r h)
 part_rule t (type_expr.Card at p n q) r h = absurd (no_part (type_of t (type_expr.Card at p n q)) r h)
 part_rule t (type_expr.Int at p n q) r h = absurd (no_part (type_of t (type_expr.Int at p n q)) r h)

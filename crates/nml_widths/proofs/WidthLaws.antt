@@ -210,19 +210,19 @@ texts_same : (rest : List (ℕ × Name)) → map (λ n. n.text) (map (λ (bar, n
 texts_same [] = refl
 texts_same ((bar, n) ∷ rest) = ap (λ xs. n.text ∷ xs) (texts_same rest)
 
-or_item : (whole t : Table) (i : Item) (names : List Text) → (entry t i).1 ≡ Declared.Or true names → item_places whole i ≡ [] → (chosen : Text) → Contains names chosen → is_rule_of true (declared whole chosen) ≡ true
-or_item whole t (item.Let at n equals minus z) names e h chosen c = absurd cc
-or_item whole t (item.Type at n equals x) names e h chosen c = absurd cc
-or_item whole t (item.Storage s) names e h chosen c = absurd cc
-or_item whole t (item.Port p) names e h chosen c = absurd (no_port_or t p.word _ true names e)
-or_item whole t (item.OrRule r) names e h chosen c =
-    let m : is_mode_word r.word ≡ true = cc in
+or_item : (whole t : Table) (i : Item) (mode : Bool) (names : List Text) → (entry t i).1 ≡ Declared.Or mode names → item_places whole i ≡ [] → (chosen : Text) → Contains names chosen → is_rule_of mode (declared whole chosen) ≡ true
+or_item whole t (item.Let at n equals minus z) mode names e h chosen c = absurd cc
+or_item whole t (item.Type at n equals x) mode names e h chosen c = absurd cc
+or_item whole t (item.Storage s) mode names e h chosen c = absurd cc
+or_item whole t (item.Port p) mode names e h chosen c = absurd (no_port_or t p.word _ mode names e)
+or_item whole t (item.OrRule r) mode names e h chosen c =
+    let m : is_mode_word r.word ≡ mode = cc in
     let a : r.first.text ∷ map (λ (bar, n). n.text) r.rest ≡ names = cc in
     let texts : r.first.text ∷ map (λ n. n.text) (map (λ (bar, n). n) r.rest) ≡ names = ap (λ xs. r.first.text ∷ xs) (texts_same r.rest) ∙ a in
     subst (λ b. is_rule_of b (declared whole chosen) ≡ true) m
     (alternatives_right whole (is_mode_word r.word) Unknown (r.first ∷ map (λ (bar, n). n) r.rest) h chosen (subst (λ xs. Contains xs chosen) (sym texts) c))
-or_item whole t (item.OpRule r) names e h chosen c = absurd cc
-or_item whole t (item.ModeRule r) names e h chosen c = absurd cc
+or_item whole t (item.OpRule r) mode names e h chosen c = absurd cc
+or_item whole t (item.ModeRule r) mode names e h chosen c = absurd cc
 
 is_width : (n : ℕ) → 1 ≤ n → n ≤ 64 → (nat_le 1 n && nat_le n 64) ≡ true
 is_width n low high =
@@ -317,13 +317,17 @@ clear d free name rule h =
     let widths : width_places d ≡ [] = none_from (width_places d) (λ at c. free 7 (omega arith) (By_width at c)) in
     rule_item (table d) f.0 f.1 rule f.3 (flat_none (item_places (table d)) d.items f.1 f.2 places) (flat_none (item_widths (table d)) d.items f.1 f.2 (no_right _ _ widths))
 
+-- an alternative of ops is an op, one of modes a mode
+pub alternatives_of : (d : Desc) → IsFreeBelow 8 d → (name : Text) (mode : Bool) (names : List Text) → declared (table d) name ≡ Some (Declared.Or mode names) → (chosen : Text) → Contains names chosen → is_rule_of mode (declared (table d) chosen) ≡ true
+alternatives_of d free name mode names h chosen c =
+    let f = found_in d name (Declared.Or mode names) h in
+    let places : type_fault_places d ≡ [] = none_from (type_fault_places d) (λ at c. free 6 (omega arith) (By_type at c)) in
+    or_item (table d) f.0 f.1 mode names f.3 (flat_none (item_places (table d)) d.items f.1 f.2 places) chosen c
+
 pub is_sound : (d : Desc) → IsFreeBelow 8 d → IsSound (table d)
 is_sound d free = record {
   names = names_right d free;
-  alternatives = λ name names h chosen c.
-      let f = found_in d name (Declared.Or true names) h in
-      let places : type_fault_places d ≡ [] = none_from (type_fault_places d) (λ at c. free 6 (omega arith) (By_type at c)) in
-      or_item (table d) f.0 f.1 names f.3 (flat_none (item_places (table d)) d.items f.1 f.2 places) chosen c;
+  alternatives = λ name names. alternatives_of d free name true names;
   rules = λ name rule h.
       let places = (clear d free name rule h).0 in
       record {

@@ -1,7 +1,7 @@
 use Rattle.std.proofs.Common.{◌∙◌, [], refl}
 use Rattle.nml_tree.specs.Attribute.{Directive}
-use Rattle.attr_eval.proofs.Pieces.{percent}
-use Rattle.attr_eval.proofs.piece.next_piece.Goals as goal
+use Rattle.nml_upward.proofs.Pieces.{percent}
+use Rattle.nml_upward.proofs.piece.next_piece.Goals as goal
 
 pub returns-in-Some-directive_end-clause-piece : goal.returns-in-Some-directive_end-clause-piece
 returns-in-Some-directive_end-clause-piece c =

@@ -1,7 +1,7 @@
 //! The pieces of a string, one after the other.
 
 ghost use Rattle.std.specs.Prelude.{◌≡◌, ◌<◌, ◌∷◌, [], ℕ, List, length, IfSome, MatchOption};
-ghost use Rattle.attr_eval.specs.Found.{Begins};
+ghost use Rattle.nml_upward.specs.Piece.{Begins};
 ghost use Rattle.nml_tree.specs.Attribute as attribute;
 ghost use Rattle.nml_tree.specs.Attribute.{directive_behind, pieces};
 
