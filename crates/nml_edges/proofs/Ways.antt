@@ -7,7 +7,7 @@ use Rattle.nml_edges.specs.declared.glyph.Last.TheVariants as last
 use Rattle.nml_edges.specs.declared.summary.Way.{Way}
 use Rattle.nml_edges.specs.declared.summary.Summary.{Summary}
 use Rattle.nml_edges.specs.Glyph.{after, touches, end, touching}
-use Rattle.nml_edges.specs.Summary.{nowhere, only, either, where_may, through, none, still, step, one, followed, both, seamed, is_made, way, says, Does, IsSummary}
+use Rattle.nml_edges.specs.Summary.{nowhere, only, either, where_may, through, none, still, step, one, followed, both, seamed, way, says, Does, IsSummary}
 
 -- truth
 pub either_true : (a b : Bool) → (a || b) ≡ true → (a ≡ true) ⊎ (b ≡ true)
@@ -390,43 +390,3 @@ still_is = record {
     forth l (Some x) gs e d =
         let f : l ≡ x = ap (end l) (sym e) ∙ d in
         ap (λ y. says (Some y) (only l false)) (sym f) ∙ only_end l false
-
--- there is a text exactly where the summary says so
-pub made_back : (A : List Glyph → Type 0) (m : Summary) → IsSummary A m → is_made m ≡ true → (gs : List Glyph) × A gs
-made_back A m s h = back7 h
-  where
-    take : (l : Last) → says (Some l) m.nothing ≡ true → (gs : List Glyph) × A gs
-    take l k = let f = s.found last.Nothing (Some l) k in (f.0, f.1)
-
-    back1 : m.nothing.nothing ≡ true → (gs : List Glyph) × A gs
-    back1 k = take last.Nothing k
-
-    back2 : (m.nothing.nothing || m.nothing.plain) ≡ true → (gs : List Glyph) × A gs
-    back2 k = elim (either_true (m.nothing.nothing) m.nothing.plain k) [ inl x ↦ back1 x | inr x ↦ take last.Plain x ]
-
-    back3 : (m.nothing.nothing || m.nothing.plain || m.nothing.number) ≡ true → (gs : List Glyph) × A gs
-    back3 k = elim (either_true (m.nothing.nothing || m.nothing.plain) m.nothing.number k) [ inl x ↦ back2 x | inr x ↦ take last.Number x ]
-
-    back4 : (m.nothing.nothing || m.nothing.plain || m.nothing.number || m.nothing.digit) ≡ true → (gs : List Glyph) × A gs
-    back4 k = elim (either_true (m.nothing.nothing || m.nothing.plain || m.nothing.number) m.nothing.digit k) [ inl x ↦ back3 x | inr x ↦ take last.Digit x ]
-
-    back5 : (m.nothing.nothing || m.nothing.plain || m.nothing.number || m.nothing.digit || m.nothing.digit_seam) ≡ true → (gs : List Glyph) × A gs
-    back5 k = elim (either_true (m.nothing.nothing || m.nothing.plain || m.nothing.number || m.nothing.digit) m.nothing.digit_seam k) [ inl x ↦ back4 x | inr x ↦ take last.DigitSeam x ]
-
-    back6 : (m.nothing.nothing || m.nothing.plain || m.nothing.number || m.nothing.digit || m.nothing.digit_seam || m.nothing.minus) ≡ true → (gs : List Glyph) × A gs
-    back6 k = elim (either_true (m.nothing.nothing || m.nothing.plain || m.nothing.number || m.nothing.digit || m.nothing.digit_seam) m.nothing.minus k) [ inl x ↦ back5 x | inr x ↦ take last.Minus x ]
-
-    back7 : (m.nothing.nothing || m.nothing.plain || m.nothing.number || m.nothing.digit || m.nothing.digit_seam || m.nothing.minus || m.nothing.minus_seam) ≡ true → (gs : List Glyph) × A gs
-    back7 k = elim (either_true (m.nothing.nothing || m.nothing.plain || m.nothing.number || m.nothing.digit || m.nothing.digit_seam || m.nothing.minus) m.nothing.minus_seam k) [ inl x ↦ back6 x | inr x ↦ take last.MinusSeam x ]
-
-made_at : (l : Last) (m : Summary) → says (Some l) m.nothing ≡ true → is_made m ≡ true
-made_at last.Nothing m h = left_true (m.nothing.nothing || m.nothing.plain || m.nothing.number || m.nothing.digit || m.nothing.digit_seam || m.nothing.minus) m.nothing.minus_seam (left_true (m.nothing.nothing || m.nothing.plain || m.nothing.number || m.nothing.digit || m.nothing.digit_seam) m.nothing.minus (left_true (m.nothing.nothing || m.nothing.plain || m.nothing.number || m.nothing.digit) m.nothing.digit_seam (left_true (m.nothing.nothing || m.nothing.plain || m.nothing.number) m.nothing.digit (left_true (m.nothing.nothing || m.nothing.plain) m.nothing.number (left_true (m.nothing.nothing) m.nothing.plain h)))))
-made_at last.Plain m h = left_true (m.nothing.nothing || m.nothing.plain || m.nothing.number || m.nothing.digit || m.nothing.digit_seam || m.nothing.minus) m.nothing.minus_seam (left_true (m.nothing.nothing || m.nothing.plain || m.nothing.number || m.nothing.digit || m.nothing.digit_seam) m.nothing.minus (left_true (m.nothing.nothing || m.nothing.plain || m.nothing.number || m.nothing.digit) m.nothing.digit_seam (left_true (m.nothing.nothing || m.nothing.plain || m.nothing.number) m.nothing.digit (left_true (m.nothing.nothing || m.nothing.plain) m.nothing.number (right_true (m.nothing.nothing) m.nothing.plain h)))))
-made_at last.Number m h = left_true (m.nothing.nothing || m.nothing.plain || m.nothing.number || m.nothing.digit || m.nothing.digit_seam || m.nothing.minus) m.nothing.minus_seam (left_true (m.nothing.nothing || m.nothing.plain || m.nothing.number || m.nothing.digit || m.nothing.digit_seam) m.nothing.minus (left_true (m.nothing.nothing || m.nothing.plain || m.nothing.number || m.nothing.digit) m.nothing.digit_seam (left_true (m.nothing.nothing || m.nothing.plain || m.nothing.number) m.nothing.digit (right_true (m.nothing.nothing || m.nothing.plain) m.nothing.number h))))
-made_at last.Digit m h = left_true (m.nothing.nothing || m.nothing.plain || m.nothing.number || m.nothing.digit || m.nothing.digit_seam || m.nothing.minus) m.nothing.minus_seam (left_true (m.nothing.nothing || m.nothing.plain || m.nothing.number || m.nothing.digit || m.nothing.digit_seam) m.nothing.minus (left_true (m.nothing.nothing || m.nothing.plain || m.nothing.number || m.nothing.digit) m.nothing.digit_seam (right_true (m.nothing.nothing || m.nothing.plain || m.nothing.number) m.nothing.digit h)))
-made_at last.DigitSeam m h = left_true (m.nothing.nothing || m.nothing.plain || m.nothing.number || m.nothing.digit || m.nothing.digit_seam || m.nothing.minus) m.nothing.minus_seam (left_true (m.nothing.nothing || m.nothing.plain || m.nothing.number || m.nothing.digit || m.nothing.digit_seam) m.nothing.minus (right_true (m.nothing.nothing || m.nothing.plain || m.nothing.number || m.nothing.digit) m.nothing.digit_seam h))
-made_at last.Minus m h = left_true (m.nothing.nothing || m.nothing.plain || m.nothing.number || m.nothing.digit || m.nothing.digit_seam || m.nothing.minus) m.nothing.minus_seam (right_true (m.nothing.nothing || m.nothing.plain || m.nothing.number || m.nothing.digit || m.nothing.digit_seam) m.nothing.minus h)
-made_at last.MinusSeam m h = right_true (m.nothing.nothing || m.nothing.plain || m.nothing.number || m.nothing.digit || m.nothing.digit_seam || m.nothing.minus) m.nothing.minus_seam h
-
-pub made_forth : (A : List Glyph → Type 0) (m : Summary) → IsSummary A m → (gs : List Glyph) → A gs → is_made m ≡ true
-made_forth A m s gs a = made_at (end last.Nothing gs) m (s.told last.Nothing (Some (end last.Nothing gs)) gs a refl)

@@ -106,10 +106,6 @@ both a b = record {
 abbrev pub seamed : Summary → Summary
 seamed m = followed (one glyph.Seam) (followed m (one glyph.Seam))
 
--- there is a text
-abbrev pub is_made : Summary → Bool
-is_made m = let w = m.nothing in w.nothing || w.plain || w.number || w.digit || w.digit_seam || w.minus || w.minus_seam
-
 -- what is said of the texts that stand behind this
 abbrev pub way : Summary → Last → Way
 way m last.Nothing = m.nothing

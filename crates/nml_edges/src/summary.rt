@@ -189,11 +189,3 @@ pub fn seamed(m: &Summary) -> Summary
     let seam = one(Glyph::Seam);
     followed(&seam, &followed(m, &seam))
 }
-
-/// Whether there is a text.
-pub fn is_made(m: &Summary) -> bool
-    ensures { result ≡ spec.is_made m.now }
-{
-    let w = m.nothing;
-    w.nothing || w.plain || w.number || w.digit || w.digit_seam || w.minus || w.minus_seam
-}
