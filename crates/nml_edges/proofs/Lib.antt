@@ -1,2 +1,4 @@
 pub mod Ways
 pub mod Texts
+pub mod Slots
+pub mod Rules
