@@ -2,3 +2,4 @@ pub mod Ways
 pub mod Texts
 pub mod Slots
 pub mod Rules
+pub mod Faults

@@ -192,7 +192,7 @@ module _ (d : Desc) (order : List ℕ) (free : IsFreeBelow 10 d) (is : IsOrder (
         (sums_are d facts rule.pars (λ q c. par_is d facts (parameter_of (table d) q.ty) (λ b part. (known name b h here (IsBelow.Part rule q dec c part), has_text b (below_is_rule (table d) made name b (IsBelow.Part rule q dec c part))))))
         (λ n. (given (arg_glyphs args.0) n, gives_given (table d) args.0 rule.pars args.1 n)) (slots rule.syntax) (λ u. u ≡ []) still still_is)
 
-    item_is : (name : Text) (i : Item) → HasNumber d name (slice_index_or order p 0) → first_item d.items name ≡ Some i → IsSummary (Texts (table d) name) (item_sum d facts i)
+    pub item_is : (name : Text) (i : Item) → HasNumber d name (slice_index_or order p 0) → first_item d.items name ≡ Some i → IsSummary (Texts (table d) name) (item_sum d facts i)
     item_is name (item.Let at n equals minus z) h f = none_is (Texts (table d) name) (no_rule (table d) name (declared_rule d name ∙ ap (option_and_then rule_part) f))
     item_is name (item.Type at n equals e) h f = none_is (Texts (table d) name) (no_rule (table d) name (declared_rule d name ∙ ap (option_and_then rule_part) f))
     item_is name (item.Storage s) h f = none_is (Texts (table d) name) (no_rule (table d) name (declared_rule d name ∙ ap (option_and_then rule_part) f))

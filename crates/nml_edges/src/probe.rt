@@ -11,3 +11,6 @@ pub fn probe3() {}
 
 #[tactic(auto, using(crate::proofs::Rules::item_is))]
 pub fn probe4() {}
+
+#[tactic(auto, using(crate::proofs::Faults::no_fault))]
+pub fn probe5() {}
