@@ -1,5 +1,5 @@
 -- The pass over the order, and the items that are at fault.
-use Rattle.std.proofs.Common.{ℕ, zero, suc, ◌≡◌, ◌+◌, ◌≤◌, ◌<◌, ◌==◌, ◌||◌, ◌&&◌, Bool, true, false, List, [], ◌∷◌, length, set, Option, Some, None, option_map, option_and_then, unwrap_or, slice_get, slice_index_or, refl, ap, sym, ◌∙◌, arith, if◌then◌else◌, cond, ◌⊎◌, inl, inr, subst}
+use Rattle.std.proofs.Common.{ℕ, zero, suc, ◌≡◌, ◌+◌, ◌≤◌, ◌<◌, ◌==◌, ◌||◌, ◌&&◌, Bool, true, false, List, [], ◌∷◌, length, set, get_or, Option, Some, None, option_map, option_and_then, unwrap_or, slice_get, slice_index_or, refl, ap, sym, ◌∙◌, arith, if◌then◌else◌, cond, ◌⊎◌, inl, inr, subst}
 use Rattle.std.proofs.lemmas.Bool.{eqb-true}
 use Rattle.std.proofs.lemmas.Bool.Decides.{nat_tests}
 use Rattle.std.specs.Prelude.{codes}
@@ -292,3 +292,39 @@ no_fault d facts n all low before rule h =
     let s = fault_bad d facts rule all h in
     let x = below_length d d.items s.number s.stands.what s.stands.at in
     not_both (is_fault d facts s.number s.stands.what) s.bad (before s.number s.stands.what (omega (arith, x, low)) s.stands.at)
+
+-- the same of what the code has
+at_slot : (items : List Item) (n : ℕ) (i : Item) → n < length items → i ≡ get_or items n i → slice_get items n ≡ Some i
+at_slot [] n i low is = absurd (omega (arith, low))
+at_slot (x ∷ items) zero i low is = ap Some (sym is)
+at_slot (x ∷ items) (suc n) i low is = at_slot items n i (omega (arith, low)) is
+
+at_item : (d : Desc) (items : List Item) (n : ℕ) (i : Item) → items ≡ d.items → n < length items → i ≡ get_or items n i → slice_get d.items n ≡ Some i
+at_item d items n i of low is = subst (λ xs. slice_get xs n ≡ Some i) of (at_slot items n i low is)
+
+long_set : (xs : List Summary) (n : ℕ) (m : Summary) → length (set xs n m) ≡ length xs
+long_set [] n m = refl
+long_set (x ∷ xs) zero m = refl
+long_set (x ∷ xs) (suc n) m = ap suc (long_set xs n m)
+
+pub pass_further : (d : Desc) (order : List ℕ) → IsFreeBelow 10 d → IsOrder (graph d.items) order → (facts now old : List Summary) (items : List Item) (p n : ℕ) (i : Item) (m : Summary) → p < length order → slice_index_or order p 0 ≡ n → items ≡ d.items
+    → n < length items → i ≡ get_or items n i → m ≡ item_sum d old i → old ≡ facts → now ≡ set facts n m → Passed d order facts p → Passed d order now (p + 1)
+pass_further d order free is facts now old items p n i m low here of within at sum same new s =
+    subst (λ z. Passed d order z (p + 1)) (sym new)
+    (pass_set d order free is facts p n i m low here (subst (λ xs. n < length xs) of within) (at_item d items n i of within at) (sum ∙ ap (λ z. item_sum d z i) same) (long_set facts n m) s)
+
+pub pass_none : (d : Desc) (order : List ℕ) (facts now : List Summary) (items : List Item) (p n : ℕ) → slice_index_or order p 0 ≡ n → items ≡ d.items → length items ≤ n → now ≡ facts → Passed d order facts p → Passed d order now (p + 1)
+pass_none d order facts now items p n here of over new s = subst (λ z. Passed d order z (p + 1)) (sym new) (pass_over d order facts p n here (subst (λ xs. length xs ≤ n) of over) s)
+
+pub fault_found : (d : Desc) (facts old : List Summary) (items : List Item) (n : ℕ) (i : Item) (b : Bool) (name : Text) → HasAll d facts → items ≡ d.items → n < length items → i ≡ get_or items n i → b ≡ is_fault d old n i → old ≡ facts → b ≡ true
+    → name ≡ (declares i).text → NoneBefore d facts n → IsFirstRule d (EdgeFault (table d)) name
+fault_found d facts old items n i b name all of low at is same bad called before =
+    first_fault d facts n i name all (at_item d items n i of low at) (ap (λ z. is_fault d z n i) (sym same) ∙ sym is ∙ bad) called before
+
+pub none_found : (d : Desc) (facts old : List Summary) (items : List Item) (n : ℕ) (i : Item) (b : Bool) → items ≡ d.items → n < length items → i ≡ get_or items n i → b ≡ is_fault d old n i → old ≡ facts → b ≡ false
+    → NoneBefore d facts n → NoneBefore d facts (n + 1)
+none_found d facts old items n i b of low at is same good before =
+    none_more d facts n i (at_item d items n i of low at) (ap (λ z. is_fault d z n i) (sym same) ∙ sym is ∙ good) before
+
+pub none_at_all : (d : Desc) (facts : List Summary) (items : List Item) (n : ℕ) → HasAll d facts → items ≡ d.items → length items ≤ n → NoneBefore d facts n → (rule : Text) → EdgeFault (table d) rule → ⊥
+none_at_all d facts items n all of low before rule h = no_fault d facts n all (subst (λ xs. length xs ≤ n) of low) before rule h

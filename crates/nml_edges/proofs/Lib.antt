@@ -3,3 +3,4 @@ pub mod Texts
 pub mod Slots
 pub mod Rules
 pub mod Faults
+pub mod Params

@@ -3,7 +3,6 @@
 
 mod edge;
 mod glyph;
-mod probe;
 mod rule;
 mod summary;
 mod text;
