@@ -1,5 +1,5 @@
 -- The pass over the order, and the items that are at fault.
-use Rattle.std.proofs.Common.{ℕ, zero, suc, ◌≡◌, ◌+◌, ◌≤◌, ◌<◌, ◌==◌, ◌||◌, ◌&&◌, Bool, true, false, List, [], ◌∷◌, length, set, get_or, Option, Some, None, option_map, option_and_then, unwrap_or, slice_get, slice_index_or, refl, ap, sym, ◌∙◌, arith, if◌then◌else◌, cond, ◌⊎◌, inl, inr, subst}
+use Rattle.std.proofs.Common.{ℕ, zero, suc, ◌≡◌, ◌+◌, ◌≤◌, ◌<◌, ◌==◌, ◌&&◌, Bool, true, false, List, [], ◌∷◌, length, set, get_or, Option, Some, None, option_map, option_and_then, slice_get, slice_index_or, refl, ap, sym, ◌∙◌, arith, ◌⊎◌, inl, inr, subst}
 use Rattle.std.proofs.lemmas.Bool.{eqb-true}
 use Rattle.std.proofs.lemmas.Bool.Decides.{nat_tests}
 use Rattle.std.specs.Prelude.{codes}
@@ -7,29 +7,28 @@ use Rattle.nk_base.specs.Text.{text_eq}
 use Rattle.nml_tree.specs.declared.tree.Item.{Item}
 use Rattle.nml_tree.specs.declared.tree.Item.TheVariants as item
 use Rattle.nml_tree.specs.declared.tree.Desc.{Desc}
-use Rattle.nml_tree.specs.Edge.{has_touch}
-use Rattle.nml_tree.specs.Table.{Text, Table, Rule, Declared, declared, table, alternative, alternative_in}
-use Rattle.nml_tree.specs.Derivation.{Derivation, Arguments, Pick, Compose, IsDerivation, Fill}
-use Rattle.nml_tree.specs.Refused.{IsFreeBelow, IsFirstRule, DeclaresAt}
+use Rattle.nml_tree.specs.Table.{Text, Table, Rule, Declared, declared, table, alternative_in}
+use Rattle.nml_tree.specs.Derivation.{Derivation, Pick, Compose, IsDerivation}
+use Rattle.nml_tree.specs.Refused.{IsFreeBelow, IsFirstRule}
 use Rattle.nml_tree.specs.Uses.{declares}
 use Rattle.nml_tree.specs.Valid.{EdgeFault, Touching, Silent}
 use Rattle.nml_tree.proofs.SameText.{same_text, equal_text}
 use Rattle.nml_names.specs.declared.names.Declaration.{Declaration}
 use Rattle.nml_names.specs.Naming.{declaration}
 use Rattle.nml_names.specs.Below.{below, graph}
-use Rattle.nml_names.specs.Graphs.{IsOrder, StandsBefore}
+use Rattle.nml_names.specs.Graphs.{IsOrder}
 use Rattle.nml_names.proofs.RuleNames.{Stands, first_item, only_rule, rule_part, declared_rule, known_stands, some_same, numbered, named, first_least}
 use Rattle.nml_names.proofs.Cycles.{declared_here, some_item, below_length, length_rows}
 use Rattle.nml_known.specs.Known.{item_number}
 use Rattle.nml_edges.specs.declared.glyph.Glyph.{Glyph}
-use Rattle.nml_edges.specs.declared.glyph.Last.{Last}
 use Rattle.nml_edges.specs.declared.glyph.Last.TheVariants as last
 use Rattle.nml_edges.specs.declared.summary.Summary.{Summary}
 use Rattle.nml_edges.specs.Glyph.{glyphs, end, touching}
-use Rattle.nml_edges.specs.Summary.{none, way, says, IsSummary}
-use Rattle.nml_edges.specs.Passed.{fact, item_sum, Texts, IsRight, AreRight, HasAll}
+use Rattle.nml_edges.specs.Summary.{IsSummary}
+use Rattle.nml_edges.specs.Passed.{fact, item_sum, Texts, AreRight, HasAll}
 use Rattle.nml_edges.specs.Found.{is_and, is_bad, is_number, is_fault}
-use Rattle.nml_edges.proofs.Texts.{has_touch_is, silent_end, end_silent}
+use Rattle.nml_edges.proofs.Texts.{and_parts, has_touch_is, silent_end, end_silent}
+use Rattle.nml_edges.proofs.Ways.{either_true, left_true, right_true}
 use Rattle.nml_edges.proofs.Rules.{item_is}
 
 -- the item at a name's number
@@ -125,22 +124,6 @@ pass_end d order facts p is low s = (
 )
 
 -- faults
-or_true : (a b : Bool) → (a || b) ≡ true → (a ≡ true) ⊎ (b ≡ true)
-or_true true b h = inl refl
-or_true false b h = inr h
-
-or_first : (a b : Bool) → a ≡ true → (a || b) ≡ true
-or_first true b h = refl
-or_first false b h = absurd cc
-
-or_second : (a b : Bool) → b ≡ true → (a || b) ≡ true
-or_second true b h = refl
-or_second false b h = h
-
-and_true : (a b : Bool) → (a && b) ≡ true → (a ≡ true) × (b ≡ true)
-and_true true b h = (refl, h)
-and_true false b h = absurd cc
-
 and_both : (a b : Bool) → a ≡ true → b ≡ true → (a && b) ≡ true
 and_both true b p q = q
 and_both false b p q = absurd cc
@@ -182,21 +165,21 @@ touching_fault t name rule h gs (Compose r args, der, is) touch = Touching r arg
 pub bad_fault : (d : Desc) (facts : List Summary) (n : ℕ) (i : Item) → HasAll d facts → slice_get d.items n ≡ Some i → is_fault d facts n i ≡ true → EdgeFault (table d) (declares i).text
 bad_fault d facts n i all at h =
     let name = (declares i).text in
-    let p = and_true (is_number (item_number d (declares i).text) n) (is_bad i (fact facts (Some n))) h in
+    let p = and_parts (is_number (item_number d (declares i).text) n) (is_bad i (fact facts (Some n))) h in
     let num = number_true (item_number d (declares i).text) n p.0 in
     let s = all.1 n (below_length d d.items n i at) (declares i).text num in
-    elim (or_true (is_and i && (fact facts (Some n)).nothing.touch) (text_eq (declares i).text (codes "instruction") && (fact facts (Some n)).nothing.nothing) p.1) [
+    elim (either_true (is_and i && (fact facts (Some n)).nothing.touch) (text_eq (declares i).text (codes "instruction") && (fact facts (Some n)).nothing.nothing) p.1) [
       | inl k ↦ (
-        let q = and_true (is_and i) (fact facts (Some n)).nothing.touch k in
-        let r = and_declared d (declares i).text i (number_item d (declares i).text n i num at) q.0 in
-        let f = s.found last.Nothing None q.1 in
-        touching_fault (table d) (declares i).text r.0 r.1 f.0 f.1 f.2
-      )
+          let q = and_parts (is_and i) (fact facts (Some n)).nothing.touch k in
+          let r = and_declared d (declares i).text i (number_item d (declares i).text n i num at) q.0 in
+          let f = s.found last.Nothing None q.1 in
+          touching_fault (table d) (declares i).text r.0 r.1 f.0 f.1 f.2
+          )
       | inr k ↦ (
-        let q = and_true (text_eq (declares i).text (codes "instruction")) (fact facts (Some n)).nothing.nothing k in
-        let f = s.found last.Nothing (Some last.Nothing) q.1 in
-        Silent f.1.0 (same_text (declares i).text (codes "instruction") q.0) f.1.1 (end_silent f.1.0 (ap (end last.Nothing) f.1.2 ∙ f.2))
-      )
+          let q = and_parts (text_eq (declares i).text (codes "instruction")) (fact facts (Some n)).nothing.nothing k in
+          let f = s.found last.Nothing (Some last.Nothing) q.1 in
+          Silent f.1.0 (same_text (declares i).text (codes "instruction") q.0) f.1.1 (end_silent f.1.0 (ap (end last.Nothing) f.1.2 ∙ f.2))
+          )
     ]
 
 -- what has a derivation is a rule
@@ -232,8 +215,8 @@ at_fault d facts name y all h bad =
       number = s.0;
       stands = s.1;
       bad = and_both (is_number (item_number d (declares s.1.what).text) s.0) (is_bad s.1.what (fact facts (Some s.0)))
-      (true_number (item_number d (declares s.1.what).text) s.0 (ap (item_number d) (sym same) ∙ num))
-      (bad s.1.what s.0 s.1.first same (all.1 s.0 (below_length d d.items s.0 s.1.what s.1.at) name num));
+          (true_number (item_number d (declares s.1.what).text) s.0 (ap (item_number d) (sym same) ∙ num))
+          (bad s.1.what s.0 s.1.first same (all.1 s.0 (below_length d d.items s.0 s.1.what s.1.at) name num));
     }
 
 pub fault_bad : (d : Desc) (facts : List Summary) (name : Text) → HasAll d facts → EdgeFault (table d) name → Stood d facts name
@@ -241,14 +224,14 @@ fault_bad d facts name all (Touching rule args der touch) =
     at_fault d facts name (Declared.And rule) all (ap (option_and_then only_rule) der.0)
     (λ i n f same s.
     let r : rule_part i ≡ Some (Declared.And rule) = ap (option_and_then rule_part) (sym f) ∙ sym (declared_rule d name) ∙ ap (option_and_then only_rule) der.0 in
-    or_first (is_and i && (fact facts (Some n)).nothing.touch) (text_eq (declares i).text (codes "instruction") && (fact facts (Some n)).nothing.nothing)
+    left_true (is_and i && (fact facts (Some n)).nothing.touch) (text_eq (declares i).text (codes "instruction") && (fact facts (Some n)).nothing.nothing)
     (and_both (is_and i) (fact facts (Some n)).nothing.touch (and_item i rule r)
     (s.told last.Nothing None (glyphs (Compose rule args)) (Compose rule args, der, refl) (sym (has_touch_is (Compose rule args)) ∙ touch))))
 fault_bad d facts name all (Silent x is der silent) =
     let y = some_rule (table d) name x der in
     at_fault d facts name y.0 all y.1
     (λ i n f same s.
-    or_second (is_and i && (fact facts (Some n)).nothing.touch) (text_eq (declares i).text (codes "instruction") && (fact facts (Some n)).nothing.nothing)
+    right_true (is_and i && (fact facts (Some n)).nothing.touch) (text_eq (declares i).text (codes "instruction") && (fact facts (Some n)).nothing.nothing)
     (and_both (text_eq (declares i).text (codes "instruction")) (fact facts (Some n)).nothing.nothing (equal_text (declares i).text (codes "instruction") (sym same ∙ is))
     (s.told last.Nothing (Some last.Nothing) (glyphs x) (x, der, refl) (silent_end x silent))))
 

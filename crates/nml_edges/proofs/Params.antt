@@ -1,5 +1,5 @@
 -- The summaries of parameters by their names.
-use Rattle.std.proofs.Common.{◌≡◌, ℕ, ◌+◌, ◌-◌, ◌<◌, Bool, true, false, cond, List, ◌∷◌, get_or, drop, map, length, Option, Some, None, refl, ap, sym, ◌∙◌, arith}
+use Rattle.std.proofs.Common.{◌≡◌, ℕ, ◌+◌, ◌-◌, ◌<◌, cond, List, ◌∷◌, get_or, drop, map, length, Option, Some, ap, sym, ◌∙◌, arith}
 use Rattle.std.specs.Map.{lookup}
 use Rattle.nk_base.specs.Text.{text_eq}
 use Rattle.nml_tree.specs.declared.tree.Par.{Par}

@@ -1,37 +1,32 @@
 -- The texts of a rule by those of the rules that it is made of.
-use Rattle.std.proofs.Common.{ℕ, zero, suc, ◌≡◌, ◌+◌, ◌≤◌, ◌<◌, ◌==◌, ◌||◌, ◌&&◌, Bool, true, false, List, [], ◌∷◌, ◌++◌, map, length, set, Option, Some, None, option_map, option_and_then, unwrap_or, slice_get, slice_index_or, refl, ap, sym, ◌∙◌, arith, if◌then◌else◌, cond, ◌⊎◌, inl, inr, subst, Contains}
+use Rattle.std.proofs.Common.{ℕ, zero, suc, ◌≡◌, ◌<◌, Bool, true, false, List, [], ◌∷◌, ◌++◌, map, length, Option, Some, None, option_map, option_and_then, unwrap_or, slice_get, slice_index_or, refl, ap, sym, ◌∙◌, arith, cond, ◌⊎◌, inl, inr, subst, Contains}
 use Rattle.std.specs.Map.{lookup}
-use Rattle.std.specs.Prelude.{codes}
 use Rattle.nk_base.specs.Text.{text_eq}
 use Rattle.nml_tree.specs.declared.tree.Par.{Par}
 use Rattle.nml_tree.specs.declared.tree.Item.{Item}
 use Rattle.nml_tree.specs.declared.tree.Item.TheVariants as item
 use Rattle.nml_tree.specs.declared.tree.Desc.{Desc}
 use Rattle.nml_tree.specs.Formula.{formula}
-use Rattle.nml_tree.specs.Table.{Text, Table, Rule, Declared, Parameter, declared, table, alternative, alternative_in, parameter_of, pars_of, rule_of, is_mode_word}
-use Rattle.nml_tree.specs.Derivation.{Derivation, Arguments, Pick, Compose, NoMore, Part, Field, IsDerivation, Fill}
+use Rattle.nml_tree.specs.Table.{Text, Table, Rule, Declared, Parameter, declared, table, alternative, alternative_in, parameter_of, rule_of, is_mode_word}
+use Rattle.nml_tree.specs.Derivation.{Arguments, Pick, Compose, Fill}
 use Rattle.nml_tree.specs.Reach.{IsBelow}
 use Rattle.nml_tree.specs.Refused.{IsFreeBelow}
-use Rattle.nml_tree.specs.Template.{text_of, given}
-use Rattle.nml_tree.specs.Uses.{declares}
-use Rattle.nml_tree.proofs.SameText.{same_text, equal_text}
-use Rattle.nml_names.specs.declared.names.Declaration.{Declaration}
-use Rattle.nml_names.specs.Naming.{declaration}
+use Rattle.nml_tree.specs.Template.{given}
 use Rattle.nml_names.specs.Below.{graph}
-use Rattle.nml_names.specs.Graphs.{IsOrder, StandsBefore}
-use Rattle.nml_names.proofs.RuleNames.{Stands, first_item, only_rule, rule_part, declared_rule, known_stands, some_same, numbered, named}
-use Rattle.nml_names.proofs.Cycles.{declared_here, some_item, below_length}
+use Rattle.nml_names.specs.Graphs.{IsOrder}
+use Rattle.nml_names.proofs.RuleNames.{first_item, only_rule, rule_part, declared_rule, some_same}
+use Rattle.nml_names.proofs.Cycles.{declared_here}
 use Rattle.nml_known.specs.Known.{item_number, parameter_told}
 use Rattle.nml_upward.specs.Upward.{AreMade, IsRule, HasNumber}
 use Rattle.nml_upward.proofs.Upward.{are_made, below_stands, has_derivation, has_arguments, below_is_rule}
 use Rattle.nml_edges.specs.declared.glyph.Glyph.{Glyph}
 use Rattle.nml_edges.specs.declared.glyph.Glyph.TheVariants as glyph
 use Rattle.nml_edges.specs.declared.summary.Summary.{Summary}
-use Rattle.nml_edges.specs.Glyph.{glyph_of, glyphs, arg_glyphs}
+use Rattle.nml_edges.specs.Glyph.{glyphs, arg_glyphs}
 use Rattle.nml_edges.specs.Summary.{none, still, one, followed, both, seamed, IsSummary}
-use Rattle.nml_edges.specs.Passed.{Slot, slots, along, listed, fact, of_parameter, par_sum, par_sums, rule_sum, any_sum, item_sum, Texts, IsRight, AreRight, HasAll}
+use Rattle.nml_edges.specs.Passed.{slots, listed, fact, of_parameter, par_sum, par_sums, rule_sum, any_sum, item_sum, Texts, AreRight}
 use Rattle.nml_edges.proofs.Ways.{Joined, followed_is, one_is, still_is, none_is, both_is, same_texts}
-use Rattle.nml_edges.proofs.Slots.{Made, along_is, filled, filled_text, OfParameter, Choice, Gives, gives_given, filled_made, Filled, Once, choose, is_once}
+use Rattle.nml_edges.proofs.Slots.{Made, along_is, filled_text, OfParameter, Choice, Gives, gives_given, filled_made, Once, choose, is_once}
 
 -- derivations of an and-rule
 and_pick : (t : Table) (name chosen : Text) (rule : Rule) (k : ℕ) → declared t name ≡ Some (Declared.And rule) → alternative t name k ≡ Some chosen → ⊥

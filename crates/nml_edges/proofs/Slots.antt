@@ -1,5 +1,5 @@
 -- The texts that a rule's slots are filled to, and their summary.
-use Rattle.std.proofs.Common.{ℕ, zero, suc, ◌≡◌, ◌+◌, ◌≤◌, ◌<◌, ◌==◌, ◌||◌, ◌&&◌, nat_le, Bool, true, false, List, [], ◌∷◌, ◌++◌, map, Option, Some, None, unwrap_or, refl, ap, sym, ◌∙◌, arith, if◌then◌else◌, cond, ◌⊎◌, inl, inr, subst, Contains, append-nil, count_by}
+use Rattle.std.proofs.Common.{ℕ, suc, ◌≡◌, ◌+◌, ◌≤◌, ◌==◌, ◌||◌, ◌&&◌, nat_le, Bool, true, false, List, [], ◌∷◌, ◌++◌, map, Option, Some, None, unwrap_or, refl, ap, sym, ◌∙◌, arith, if◌then◌else◌, cond, subst, Contains, append-nil, count_by}
 use Rattle.std.proofs.lemmas.Bool.{eqb-true}
 use Rattle.std.proofs.lemmas.List.Sums.{sum_by-cons}
 use Rattle.std.specs.Map.{lookup}
@@ -12,8 +12,8 @@ use Rattle.nml_tree.specs.declared.tree.Desc.{Desc}
 use Rattle.nml_tree.specs.Attribute as attribute
 use Rattle.nml_tree.specs.Attribute.{FormatPiece, pieces}
 use Rattle.nml_tree.specs.Table.{Text, Table, Rule, Declared, Parameter, declared, table, parameter_of}
-use Rattle.nml_tree.specs.Derivation.{Derivation, Arguments, Pick, Compose, NoMore, Part, Field, IsDerivation, Fill}
-use Rattle.nml_tree.specs.Mentions.{mentions, actions, is_linear, LinearFault}
+use Rattle.nml_tree.specs.Derivation.{Arguments, NoMore, Part, Field, Fill}
+use Rattle.nml_tree.specs.Mentions.{mentions, actions, is_linear}
 use Rattle.nml_tree.specs.Refused.{IsFreeBelow, By_mention}
 use Rattle.nml_tree.specs.Template.{put_in, given, text_of}
 use Rattle.nml_tree.proofs.SameText.{same_text, text_same, turned}
@@ -21,9 +21,10 @@ use Rattle.nml_edges.specs.declared.glyph.Glyph.{Glyph}
 use Rattle.nml_edges.specs.declared.glyph.Glyph.TheVariants as glyph
 use Rattle.nml_edges.specs.declared.summary.Summary.{Summary}
 use Rattle.nml_edges.specs.Glyph.{glyph_of, glyphs, arg_glyphs}
-use Rattle.nml_edges.specs.Summary.{none, still, one, followed, IsSummary}
+use Rattle.nml_edges.specs.Summary.{one, followed, IsSummary}
 use Rattle.nml_edges.specs.Passed.{Slot, Own, Hole, own, holes, slots, along, Texts}
-use Rattle.nml_edges.proofs.Ways.{Joined, followed_is, one_is, still_is, same_texts}
+use Rattle.nml_edges.proofs.Texts.{and_parts}
+use Rattle.nml_edges.proofs.Ways.{Joined, followed_is, one_is, same_texts}
 
 app_assoc : {A : Type 0} (xs ys zs : List A) → (xs ++ ys) ++ zs ≡ xs ++ (ys ++ zs)
 app_assoc [] ys zs = refl
@@ -318,10 +319,6 @@ named_in (p ∷ ps) n h = by (text_eq n p.name.text) refl h (named_in ps n)
     by true e k rest = (0, omega arith, sym (same_text n p.name.text e))
     by false e k rest = let r = rest k in (suc r.0, omega (arith, r.1), r.2)
 
-and_left : (a b : Bool) → (a && b) ≡ true → a ≡ true
-and_left true b h = refl
-and_left false b h = absurd cc
-
 pub is_once : (d : Desc) (name : Text) (rule : Rule) → IsFreeBelow 9 d → declared (table d) name ≡ Some (Declared.And rule) → Once rule.pars (slots rule.syntax)
 is_once d name rule free is = once_is rule.pars (slots rule.syntax) (λ n p. one_slot n p)
   where
@@ -334,7 +331,7 @@ is_once d name rule free is = once_is rule.pars (slots rule.syntax) (λ n p. one
 
     one_slot : (n : Text) → is_par rule.pars n ≡ true → count n (slots rule.syntax) ≤ 1
     one_slot n p =
-        let a = and_left (mentions n rule.syntax == 1) (mentions n rule.image == 1) (and_left ((mentions n rule.syntax == 1) && (mentions n rule.image == 1)) (nat_le (actions n rule.action) 1) (linear n p)) in
-        let e = eqb-true (mentions n rule.syntax) 1 a in
+        let both = (and_parts ((mentions n rule.syntax == 1) && (mentions n rule.image == 1)) (nat_le (actions n rule.action) 1) (linear n p)).0 in
+        let e = eqb-true (mentions n rule.syntax) 1 (and_parts (mentions n rule.syntax == 1) (mentions n rule.image == 1) both).0 in
         let l = count_text n rule.syntax in
         omega (arith, e, l)

@@ -1,5 +1,5 @@
 -- The text of a derivation, character by character and glyph by glyph.
-use Rattle.std.proofs.Common.{ℕ, zero, suc, ◌≡◌, ◌+◌, ◌/◌, ◌%◌, ◌<◌, ◌==◌, nat_lt, ◌||◌, ◌&&◌, Bool, true, false, List, [], ◌∷◌, ◌++◌, map, Option, Some, None, unwrap_or, refl, ap, sym, ◌∙◌, arith, if◌then◌else◌, cond, ◌⊎◌, inl, inr, ℤ, pos, negsuc, length, subst}
+use Rattle.std.proofs.Common.{ℕ, zero, suc, ◌≡◌, ◌+◌, ◌/◌, ◌%◌, ◌<◌, ◌==◌, nat_lt, ◌||◌, ◌&&◌, Bool, true, false, List, [], ◌∷◌, ◌++◌, map, Some, unwrap_or, refl, ap, sym, ◌∙◌, arith, if◌then◌else◌, cond, ℤ, pos, negsuc, length}
 use Rattle.std.proofs.lemmas.Bool.{eqb-true}
 use Rattle.std.specs.Char.{is_ascii_digit}
 use Rattle.std.specs.Fmt.{decimal, signed_decimal, digits, digits_onto, digit_glyph}
@@ -17,14 +17,14 @@ use Rattle.nml_tree.specs.Table.{Text}
 use Rattle.nml_tree.specs.Derivation.{Derivation, Arguments, Pick, Compose, NoMore, Part, Field, fields}
 use Rattle.nml_tree.specs.Template.{put_in, given, text_of}
 use Rattle.nml_tree.specs.Syntax.{syntax_of, syntaxes}
-use Rattle.nml_tree.specs.LineToken.{LineToken, Begun, begun, number_in_front, tokens_behind, line_tokens}
+use Rattle.nml_tree.specs.LineToken.{LineToken, Begun, number_in_front, tokens_behind, line_tokens}
 use Rattle.nml_tree.specs.Edge as edge
 use Rattle.nml_tree.specs.Edge.{Flat, flat, flats, Left, is_sign, touch, touch_number, over_seam, has_touch}
 use Rattle.nml_edges.specs.declared.glyph.Glyph.{Glyph}
 use Rattle.nml_edges.specs.declared.glyph.Glyph.TheVariants as glyph
 use Rattle.nml_edges.specs.declared.glyph.Last.{Last}
 use Rattle.nml_edges.specs.declared.glyph.Last.TheVariants as last
-use Rattle.nml_edges.specs.Glyph.{glyph_of, glyphs, arg_glyphs, behind_blank, behind_seam, after, digit_touches, minus_touches, number_touches, touches, end, touching}
+use Rattle.nml_edges.specs.Glyph.{glyph_of, glyphs, arg_glyphs, behind_blank, behind_seam, after, number_touches, touches, end, touching}
 
 -- a relation of lists that letters and lists put together keep
 pub record IsKept {A B : Type 0} (R : List A → List B → Type 0) (f : ℕ → A) (g : ℕ → B) : Type 0 where
@@ -497,7 +497,7 @@ silent_blank (c ∷ text) h =
     (prefix_len is_name_start text) (prefix_len is_ascii_digit text) (prefix_len is_ascii_digit text) text h in
     rw (s.0, silent_blank text s.1) refl
 
-and_parts : (a b : Bool) → (a && b) ≡ true → (a ≡ true) × (b ≡ true)
+pub and_parts : (a b : Bool) → (a && b) ≡ true → (a ≡ true) × (b ≡ true)
 and_parts true b h = (refl, h)
 and_parts false b h = absurd cc
 

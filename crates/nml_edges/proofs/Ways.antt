@@ -1,13 +1,12 @@
 -- What summaries say of texts that are put together.
-use Rattle.std.proofs.Common.{ℕ, ◌≡◌, ◌||◌, Bool, true, false, List, [], ◌∷◌, ◌++◌, Option, Some, None, refl, ap, sym, ◌∙◌, if◌then◌else◌, ◌⊎◌, inl, inr}
+use Rattle.std.proofs.Common.{◌≡◌, ◌||◌, Bool, true, false, List, [], ◌∷◌, ◌++◌, Option, Some, None, refl, ap, sym, ◌∙◌, ◌⊎◌, inl, inr}
 use Rattle.nml_edges.specs.declared.glyph.Glyph.{Glyph}
-use Rattle.nml_edges.specs.declared.glyph.Glyph.TheVariants as glyph
 use Rattle.nml_edges.specs.declared.glyph.Last.{Last}
 use Rattle.nml_edges.specs.declared.glyph.Last.TheVariants as last
 use Rattle.nml_edges.specs.declared.summary.Way.{Way}
 use Rattle.nml_edges.specs.declared.summary.Summary.{Summary}
 use Rattle.nml_edges.specs.Glyph.{after, touches, end, touching}
-use Rattle.nml_edges.specs.Summary.{nowhere, only, either, where_may, through, none, still, step, one, followed, both, seamed, way, says, Does, IsSummary}
+use Rattle.nml_edges.specs.Summary.{nowhere, only, either, where_may, through, none, still, step, one, followed, both, way, says, Does, IsSummary}
 
 -- truth
 pub either_true : (a b : Bool) → (a || b) ≡ true → (a ≡ true) ⊎ (b ≡ true)

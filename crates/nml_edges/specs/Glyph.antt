@@ -26,7 +26,7 @@ abbrev mutual
   arg_glyphs (Part name d args) = (name, glyph.Seam ∷ (glyphs d ++ glyph.Seam ∷ [])) ∷ arg_glyphs args
   arg_glyphs (Field name ty z args) = (name, glyph.Number ∷ []) ∷ arg_glyphs args
 
--- a blank touches nothing, and behind nothing but blanks there is still nothing
+-- behind a blank: where there were nothing but blanks there is still nothing
 abbrev pub behind_blank : Last → Last
 behind_blank last.Nothing = last.Nothing
 behind_blank last.Plain = last.Plain

@@ -1,5 +1,5 @@
 -- What texts may do, from each of the things that may stand before them.
-use Rattle.std.specs.Prelude.{ℕ, ◌≡◌, ◌||◌, Bool, true, false, List, [], ◌∷◌, Option, Some, None, if◌then◌else◌}
+use Rattle.std.specs.Prelude.{◌≡◌, ◌||◌, Bool, true, false, List, Option, Some, None, if◌then◌else◌}
 use Rattle.nml_edges.specs.declared.glyph.Glyph.{Glyph}
 use Rattle.nml_edges.specs.declared.glyph.Glyph.TheVariants as glyph
 use Rattle.nml_edges.specs.declared.glyph.Last.{Last}

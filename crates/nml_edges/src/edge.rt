@@ -55,7 +55,8 @@ fn is_bad(item: &Item, m: &Summary) -> bool
     ensures { result ≡ spec.is_bad item.now m.now }
 {
     let name = &declared_name(item).text;
-    is_and(item) && m.nothing.touch || name.as_bytes() == b"instruction".as_slice() && m.nothing.nothing
+    is_and(item) && m.nothing.touch
+        || name.as_bytes() == b"instruction".as_slice() && m.nothing.nothing
 }
 
 /// Whether the number is that of the name.
@@ -81,11 +82,7 @@ fn is_fault(names: &Names<'_>, facts: &[Summary], number: usize, item: &Item) ->
 ///
 /// In the order each rule stands behind those that it names. Each item is looked at once, whatever its texts. The rule is this project's
 /// own. The one error is want of memory.
-pub fn first_edge(
-    alloc: Global,
-    names: &Names<'_>,
-    order: &[usize],
-) -> Result<Option<Text>, Memory>
+pub fn first_edge(alloc: Global, names: &Names<'_>, order: &[usize]) -> Result<Option<Text>, Memory>
     requires order { IsOrder (graph names.now.items) order.now }
     requires free { IsFreeBelow 10 names.now }
     ensures { IfOk result (λ found. MatchOption found ((rule : List ℕ) → EdgeFault (table names.now) rule → ⊥) (IsFirstRule names.now (EdgeFault (table names.now)))) }

@@ -90,7 +90,10 @@ fn where_may(may: bool, way: Way) -> Way
 fn through(way: Way, m: &Summary) -> Way
     ensures { result ≡ spec.through way m.now }
 {
-    let first = Way { touch: way.touch, ..nowhere() };
+    let first = Way {
+        touch: way.touch,
+        ..nowhere()
+    };
     let a = either(first, where_may(way.nothing, m.nothing));
     let b = either(a, where_may(way.plain, m.plain));
     let c = either(b, where_may(way.number, m.number));
