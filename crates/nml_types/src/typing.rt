@@ -5,9 +5,13 @@ ghost use Rattle.nml_names.specs.Graphs.{IsOrder};
 ghost use Rattle.nml_tree.specs.Refused.{IsFreeBelow, IsTyped, IsUntyped};
 ghost use Rattle.std.specs.Prelude.{◌≡◌, MatchResult};
 
+use nml_edges::first_edge;
+use nml_kinds::first_faults;
 use nml_known::Names;
 use nml_names::{first_cycle, first_lack, first_name_fault, first_unlinear};
 use nml_tree::{Desc, DescFault, Typed};
+use nml_words::first_word_fault;
+use nml_worth::rule_worths;
 use std::alloc::Global;
 
 /// The description, where none of the faults N4 to N11 holds of it; else the one of the lowest number, at its first place. `DescFault`
@@ -65,7 +69,15 @@ fn refuse_kinds(alloc: Global, names: &Names<'_>, order: &[usize]) -> Result<(),
     requires order { IsOrder (below.graph names.now.items) order.now }
     ensures { MatchResult result (λ done. IsFreeBelow 8 names.now) (λ f. IsUntyped names.now f) }
 {
-    Err(DescFault::Memory)
+    let worths = rule_worths(alloc, names, order)?;
+    let found = first_faults(alloc, names, &worths)?;
+    if let Some(at) = found.kind {
+        return Err(DescFault::TypeFault { at: u64::from(at) });
+    }
+    if let Some(at) = found.width {
+        return Err(DescFault::Width { at: u64::from(at) });
+    }
+    Ok(())
 }
 
 /// Refuses a parameter that isn't named as often as it must be.
@@ -85,7 +97,10 @@ fn refuse_words(alloc: Global, names: &Names<'_>, order: &[usize]) -> Result<(),
     requires order { IsOrder (below.graph names.now.items) order.now }
     ensures { MatchResult result (λ done. IsFreeBelow 10 names.now) (λ f. IsUntyped names.now f) }
 {
-    Err(DescFault::Memory)
+    match first_word_fault(alloc, names, order)? {
+        None => Ok(()),
+        Some(rule) => Err(DescFault::WordWidth { rule }),
+    }
 }
 
 /// Refuses a syntax in which something touches.
@@ -94,7 +109,10 @@ fn refuse_edges(alloc: Global, names: &Names<'_>, order: &[usize]) -> Result<(),
     requires order { IsOrder (below.graph names.now.items) order.now }
     ensures { MatchResult result (λ done. IsFreeBelow 11 names.now) (λ f. IsUntyped names.now f) }
 {
-    Err(DescFault::Memory)
+    match first_edge(alloc, names, order)? {
+        None => Ok(()),
+        Some(rule) => Err(DescFault::Edge { rule }),
+    }
 }
 
 /// Refuses a description without `instruction` or `PC`.

@@ -1,0 +1,4 @@
+pub mod Glyph
+pub mod Summary
+pub mod Passed
+pub mod Found
