@@ -65,6 +65,7 @@ item_from (i ∷ items) t name x none h = by (text_eq name (declares i).text) re
         found_behind name t (entry t i)
         ∙ ap (λ o. option_or o (if text_eq name (entry t i).0 then Some (entry t i).1 else None)) none
         ∙ ap (λ n. if text_eq name n then Some (entry t i).1 else None) (entry_name t i)
+
     by : (b : Bool) → text_eq name (declares i).text ≡ b
         → (lookup (text_eq name) (t ++ entry t i ∷ []) ≡ None → (k : ℕ) × (j : Item) × (slice_get items k ≡ Some j) × ((declares j).text ≡ name))
         → (k : ℕ) × (j : Item) × (slice_get (i ∷ items) k ≡ Some j) × ((declares j).text ≡ name)
@@ -403,8 +404,8 @@ alike d fault.Memory g h k e = absurd h
 pub one_only : (d : Desc) (f g : DescFault) → IsTypingFault d f → IsTypingFault d g → f ≡ g
 one_only d f g h k =
     elim (le_or_lt (number f) (number g)) [
-      inr lt ↦ absurd (free_of d f h (number g) lt (holds_of d g k))
-    | inl le ↦ same le (le_or_lt (number g) (number f))
+      | inr lt ↦ absurd (free_of d f h (number g) lt (holds_of d g k))
+      | inl le ↦ same le (le_or_lt (number g) (number f))
     ]
   where
     same : number f ≤ number g → (number g ≤ number f) ⊎ (number f < number g) → f ≡ g
