@@ -44,14 +44,9 @@ told_alone b n t u f g form o status s told = record {
 
 -- ---- the file
 
-saved : (m n : Store) (f : Option Written) → IsStored m n f (Ok tt) → IsSaved m n f
-saved m n None e = e
-saved m n (Some f) w = w
-
-unsaved : (m n : Store) (w : Work) (f : Option Written) (e : Refusal) → w.file ≡ f → IsStored m n f (Err e) → Filed m n w (refused e)
-unsaved m n w None e is x = absurd x
-unsaved m n w (Some f) e is (call, inl x) = Failed f is x.1 call x.2 x.0
-unsaved m n w (Some f) e is (call, inr x) = Starved f is x.1 call x.0
+unsaved : (m n : Store) (w : Work) (f : Written) (e : Refusal) → w.file ≡ Some f → IsStored m n f (Err e) → Filed m n w (refused e)
+unsaved m n w f e is (call, inl x) = Failed f is x.1 call x.2 x.0
+unsaved m n w f e is (call, inr x) = Starved f is x.1 call x.0
 
 -- what came of the write is told
 filed_told : (b m n : Store) (t u : Option (List ℕ)) (f g : ℕ) (form : Option Form) (w : Work) (o : Reply) (status : Status) → Settles b m (named_to_read form) (ComesTo form) w
@@ -69,24 +64,20 @@ filed_told b m n t u f g form w o status s named filed told = record {
   puts = told;
 }
 
-named_so : (i : List ℕ) (bytes : Option (Vec ℕ)) → IsNamed (file_named i bytes) (Some i)
-named_so i None = tt
-named_so i (Some bytes) = refl
-
-pub saved_told : (b m n : Store) (t u : Option (List ℕ)) (f g : ℕ) (form : Option Form) (i : List ℕ) (bytes : Option (Vec ℕ)) (o : Reply) (status : Status)
-    → named_to_write form ≡ Some i → Settles b m (named_to_read form) (ComesTo form) (record { file = file_named i bytes; reply = o })
+pub saved_told : (b m n : Store) (t u : Option (List ℕ)) (f g : ℕ) (form : Option Form) (i : List ℕ) (bytes : Vec ℕ) (o : Reply) (status : Status)
+    → named_to_write form ≡ Some i → Settles b m (named_to_read form) (ComesTo form) (record { file = Some (file_named i bytes); reply = o })
     → IsStored m n (file_named i bytes) (Ok tt) → Told o t u f g status → Answers (at b t f) (at n u g) form status
 saved_told b m n t u f g form i bytes o status e s stored told =
-    filed_told b m n t u f g form (record { file = file_named i bytes; reply = o }) o status s
-    (subst (IsNamed (file_named i bytes)) (sym e) (named_so i bytes)) (Kept (saved m n (file_named i bytes) stored) refl) told
+    filed_told b m n t u f g form (record { file = Some (file_named i bytes); reply = o }) o status s
+    (subst (IsNamed (Some (file_named i bytes))) (sym e) refl) (Kept stored refl) told
 
-pub unsaved_told : (b m n : Store) (t u : Option (List ℕ)) (f g : ℕ) (form : Option Form) (i : List ℕ) (bytes : Option (Vec ℕ)) (o : Reply) (e : Refusal) (status : Status)
-    → named_to_write form ≡ Some i → Settles b m (named_to_read form) (ComesTo form) (record { file = file_named i bytes; reply = o })
+pub unsaved_told : (b m n : Store) (t u : Option (List ℕ)) (f g : ℕ) (form : Option Form) (i : List ℕ) (bytes : Vec ℕ) (o : Reply) (e : Refusal) (status : Status)
+    → named_to_write form ≡ Some i → Settles b m (named_to_read form) (ComesTo form) (record { file = Some (file_named i bytes); reply = o })
     → IsStored m n (file_named i bytes) (Err e) → Told (refused e) t u f g status → Answers (at b t f) (at n u g) form status
 unsaved_told b m n t u f g form i bytes o e status is s stored told =
-    let w : Work = record { file = file_named i bytes; reply = o } in
+    let w : Work = record { file = Some (file_named i bytes); reply = o } in
     filed_told b m n t u f g form w (refused e) status s
-    (subst (IsNamed (file_named i bytes)) (sym is) (named_so i bytes)) (unsaved m n w (file_named i bytes) e refl stored) told
+    (subst (IsNamed (Some (file_named i bytes))) (sym is) refl) (unsaved m n w (file_named i bytes) e refl stored) told
 
 -- ---- `run`
 

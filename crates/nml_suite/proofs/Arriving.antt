@@ -12,7 +12,6 @@ use Rattle.nml_suite.specs.Reply.{assembled, starved, unread}
 use Rattle.nml_suite.specs.Refusing.{refused, settled, Settles, Arrives, IsUnread, IsDescribed, IsAssembledText, IsFound, IsBlankInput, TellsRunOf}
 use Rattle.nml_suite.specs.Work.{Work, telling}
 use Rattle.nml_suite.specs.declared.assemble.Assembled.{Assembled}
-use Rattle.nml_suite.specs.declared.purpose.Purpose.{Purpose}
 use Rattle.nml_suite.specs.declared.refusal.Refusal.{Refusal}
 use Rattle.nml_suite.proofs.ReadRows.{reads_append}
 
@@ -74,15 +73,15 @@ not_opened b n name names goes e u = record {
 
 -- ---- a description
 
-pub described : (b : Store) (names : List (List ℕ)) (purpose : Purpose) (name bytes : List ℕ) (d : Description) (goes : Description → List Asked → Work → Type 0)
-    → Describes purpose bytes d → Arrives b b names names (Accepts name bytes (λ tree. Simplifies purpose name tree goes)) (goes d)
-described b names purpose name bytes d goes h = on b names _ (goes d) (λ more w g. Accepted h.tree h.accepted (Plain d h.built g))
+pub described : (b : Store) (names : List (List ℕ)) (name bytes : List ℕ) (d : Description) (goes : Description → List Asked → Work → Type 0)
+    → Describes bytes d → Arrives b b names names (Accepts name bytes (λ tree. Simplifies name tree goes)) (goes d)
+described b names name bytes d goes h = on b names _ (goes d) (λ more w g. Accepted h.tree h.accepted (Plain d h.built g))
 
-pub not_described : (b : Store) (names : List (List ℕ)) (purpose : Purpose) (name bytes : List ℕ) (e : Refusal) (goes : Description → List Asked → Work → Type 0)
-    → IsDescribed purpose name bytes (Err e) → Settles b b names (Accepts name bytes (λ tree. Simplifies purpose name tree goes)) (telling (refused e))
-not_described b names purpose name bytes e goes (inl wants) = here b names _ _ (inr (ap telling wants))
-not_described b names purpose name bytes e goes (inr (inl x)) = here b names _ _ (inl (Faulty x.fault x.faulty (record { last = refl; is = ap telling x.is })))
-not_described b names purpose name bytes e goes (inr (inr x)) =
+pub not_described : (b : Store) (names : List (List ℕ)) (name bytes : List ℕ) (e : Refusal) (goes : Description → List Asked → Work → Type 0)
+    → IsDescribed name bytes (Err e) → Settles b b names (Accepts name bytes (λ tree. Simplifies name tree goes)) (telling (refused e))
+not_described b names name bytes e goes (inl wants) = here b names _ _ (inr (ap telling wants))
+not_described b names name bytes e goes (inr (inl x)) = here b names _ _ (inl (Faulty x.fault x.faulty (record { last = refl; is = ap telling x.is })))
+not_described b names name bytes e goes (inr (inr x)) =
     here b names _ _ (inl (Accepted x.tree x.accepted (Other x.none (record { last = refl; is = ap telling x.is }))))
 
 -- ---- `asm`

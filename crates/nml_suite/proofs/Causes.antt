@@ -20,8 +20,6 @@ use Rattle.nml_suite.specs.Reply.{Reply, unread, starved, not_built, stop_status
 use Rattle.nml_suite.specs.Told.{Told, Whole, Cut, Starved, CutStarved, EndsIn}
 use Rattle.nml_suite.specs.Work.{Work, telling, Filed, Kept}
 use Rattle.nml_suite.specs.Work as works
-use Rattle.nml_suite.specs.declared.purpose.Purpose.{Purpose}
-use Rattle.nml_suite.specs.declared.purpose.Purpose.TheVariants as purposes
 use Rattle.nml_suite.specs.declared.status.Status.{Status}
 use Rattle.nml_suite.specs.declared.status.Status.TheVariants as statuses
 use Rattle.nml_suite.proofs.Filing.{calls_without, counted_by, leaves_of}
@@ -70,17 +68,17 @@ accepts_owe : (b n : Moment) (form : Option Form) (f : HasBytes b form 0) (goes 
 accepts_owe b n form f goes xs w h (Faulty fault x e) = ends_owe b n form xs w _ e (λ t. record { file = f; fault = fault; faulty = x; told = t })
 accepts_owe b n form f goes xs w h (Accepted tree a g) = h tree a g
 
-simplifies_owe : (b n : Moment) (form : Option Form) (purpose : Purpose) (f : HasBytes b form 0) (tree : Desc) (goes : Description → List Asked → Work → Type 0) (xs : List Asked) (w : Work)
-    → IsAccepted f.bytes tree → (HasOtherDescription purpose b n form → IsNotBuilt b n form)
-    → ((d : HasDescription purpose b form) → d.file ≡ f → goes d.plain xs w → Owes b n form w.reply)
-    → Simplifies purpose f.name tree goes xs w → Owes b n form w.reply
-simplifies_owe b n form purpose f tree goes xs w a row h (Other none e) = ends_owe b n form xs w _ e (λ t. row (record { file = f; tree = tree; accepted = a; none = none; told = t }))
-simplifies_owe b n form purpose f tree goes xs w a row h (Plain d built g) =
+simplifies_owe : (b n : Moment) (form : Option Form) (f : HasBytes b form 0) (tree : Desc) (goes : Description → List Asked → Work → Type 0) (xs : List Asked) (w : Work)
+    → IsAccepted f.bytes tree → (HasOtherDescription b n form → IsNotBuilt b n form)
+    → ((d : HasDescription b form) → d.file ≡ f → goes d.plain xs w → Owes b n form w.reply)
+    → Simplifies f.name tree goes xs w → Owes b n form w.reply
+simplifies_owe b n form f tree goes xs w a row h (Other none e) = ends_owe b n form xs w _ e (λ t. row (record { file = f; tree = tree; accepted = a; none = none; told = t }))
+simplifies_owe b n form f tree goes xs w a row h (Plain d built g) =
     h (record { file = f; plain = d; described = record { tree = tree; accepted = a; built = built } }) refl g
 
 -- ---- `asm`
 
-text_owes : (b n : Moment) (d s i : List ℕ) (x : HasDescription purposes.Assembling b (Some (Asm d s i))) (f : HasBytes b (Some (Asm d s i)) 1) (xs : List Asked) (w : Work)
+text_owes : (b n : Moment) (d s i : List ℕ) (x : HasDescription b (Some (Asm d s i))) (f : HasBytes b (Some (Asm d s i)) 1) (xs : List Asked) (w : Work)
     → Leaves b.store n.store w.file → AssemblesTo f.name i x.file.bytes x.plain f.bytes xs w → Owes b n (Some (Asm d s i)) w.reply
 text_owes b n d s i x f xs w saved (NotPlain c e) =
     ends_owe b n (Some (Asm d s i)) xs w _ e (λ t. Text (record { files = record { asm = tt; description = x; text = f }; other = c; told = t }))
@@ -106,7 +104,7 @@ asm_owes b n d s i xs w calls c saved =
     (λ bytes more r calls_more c_more.
     let f : HasBytes b form 0 = record { name = d; named = refl; bytes = bytes; read = r } in
     accepts_owe b n form f _ more w
-    (λ tree a. simplifies_owe b n form purposes.Assembling f tree _ more w a (Assembled tt)
+    (λ tree a. simplifies_owe b n form f tree _ more w a (Assembled tt)
     (λ x is. opens_owe b n form 1 s _ more w refl calls_more c_more
     (λ text rest t calls_rest c_rest g.
     text_owes b n d s i x (record { name = s; named = refl; bytes = text; read = t }) rest w saved
@@ -146,7 +144,7 @@ run_owes b n d i x steps xs w calls c =
     (λ bytes more r calls_more c_more.
     let f : HasBytes b form 0 = record { name = d; named = refl; bytes = bytes; read = r } in
     accepts_owe b n form f _ more w
-    (λ tree a. simplifies_owe b n form purposes.Running f tree _ more w a (Machine steps refl)
+    (λ tree a. simplifies_owe b n form f tree _ more w a (Machine steps refl)
     (λ p is. opens_owe b n form 1 i _ more w refl calls_more c_more
     (λ bits rest s calls_rest c_rest g.
     let m : HasMachine b form = record { steps = steps; run = refl; description = p; image = record { name = i; named = refl; bytes = bits; read = s } } in

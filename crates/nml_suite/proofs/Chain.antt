@@ -7,7 +7,6 @@ use Rattle.nml_suite.specs.Form.{Form, Check, Asm, Dis, Run, Cc, Ceval, Demo}
 use Rattle.nml_suite.specs.Reading.{Reading, Unread, IsShort, Asked}
 use Rattle.nml_suite.specs.Reply.{Reply}
 use Rattle.nml_suite.specs.Work.{Work, Written, telling}
-use Rattle.nml_suite.specs.declared.purpose.Purpose.{Purpose}
 use Rattle.nml_suite.specs.declared.status.Status.TheVariants as statuses
 
 -- no read wanted memory
@@ -45,10 +44,10 @@ accepts_sound : (name bytes : List ℕ) (goes : Desc → List Asked → Work →
 accepts_sound name bytes goes xs w h (Faulty fault x e) = ends_sound _ xs w e
 accepts_sound name bytes goes xs w h (Accepted tree a g) = h tree g
 
-simplifies_sound : (purpose : Purpose) (name : List ℕ) (tree : Desc) (goes : Description → List Asked → Work → Type 0) (xs : List Asked) (w : Work)
-    → ((d : Description) → goes d xs w → IsSound xs w) → Simplifies purpose name tree goes xs w → IsSound xs w
-simplifies_sound purpose name tree goes xs w h (Other none e) = ends_sound _ xs w e
-simplifies_sound purpose name tree goes xs w h (Plain d built g) = h d g
+simplifies_sound : (name : List ℕ) (tree : Desc) (goes : Description → List Asked → Work → Type 0) (xs : List Asked) (w : Work)
+    → ((d : Description) → goes d xs w → IsSound xs w) → Simplifies name tree goes xs w → IsSound xs w
+simplifies_sound name tree goes xs w h (Other none e) = ends_sound _ xs w e
+simplifies_sound name tree goes xs w h (Plain d built g) = h d g
 
 text_sound : (s i bytes : List ℕ) (d : Description) (text : List ℕ) (xs : List Asked) (w : Work) → AssemblesTo s i bytes d text xs w → IsSound xs w
 text_sound s i bytes d text xs w (NotPlain c e) = ends_sound _ xs w e

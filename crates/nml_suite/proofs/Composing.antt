@@ -12,11 +12,10 @@ use Rattle.plain_tools.specs.Machine.{beginning}
 use Rattle.plain_tools.proofs.HasOutcome.{has_outcome}
 use Rattle.nml_suite.specs.Coming.{EndsWith, Opens, Short, Opened, Accepts, Faulty, Accepted, Simplifies, Other, Plain, AssemblesTo, NotPlain, NoMatch, Words, Loads, NoImage, Loaded, RunsTo, Input, Ran, IsImageOf, AsmComesTo, RunComesTo, picture}
 use Rattle.nml_suite.specs.Composed.{Makes, IsBlank, RunsText}
-use Rattle.nml_suite.specs.Described.{IsAccepted, IsBuilt, Describes, has_pc}
+use Rattle.nml_suite.specs.Described.{IsAccepted, IsBuilt, Describes}
 use Rattle.nml_suite.specs.Reading.{Reading, Got, Unread, IsShort, Asked}
 use Rattle.nml_suite.specs.Reply.{Reply, told_run}
 use Rattle.nml_suite.specs.Work.{Work, Written, telling}
-use Rattle.nml_suite.specs.declared.purpose.Purpose.TheVariants as purposes
 use Rattle.nml_suite.proofs.OneFault.{no_fault, one_accepted, one_built}
 use Rattle.nml_suite.proofs.OneWork.{one_image}
 
@@ -50,43 +49,39 @@ goes_on name bytes xs goes w (Opened other more e g) =
 -- what the file is of
 record IsOf (bytes text : List ℕ) (f : Written) : Type 0 where
   description : Description
-  described : Describes purposes.Running bytes description
+  described : Describes bytes description
   fit : IsTrue (is_fit description text)
   words : List ℕ
   assembles : Assembles description (lines text) words
   is : f.bytes ≡ file (picture bytes description words)
 
-by_pc : (pc : Bool) (g f : Written) → (if pc then Some g else None) ≡ Some f → (pc ≡ true) × (f ≡ g)
-by_pc true g f e = (refl, cc)
-by_pc false g f e = absurd (cc)
-
 ends_without : {A : Type 0} (o : Reply) (xs : List Asked) (w : Work) (f : Written) → EndsWith o xs w → w.file ≡ Some f → A
 ends_without o xs w f e is = absurd (cc (e.is, is))
 
-text_is : (s i bytes : List ℕ) (d : Description) (text : List ℕ) (xs : List Asked) (w : Work) (f : Written) → Describes purposes.Assembling bytes d
+text_is : (s i bytes : List ℕ) (d : Description) (text : List ℕ) (xs : List Asked) (w : Work) (f : Written) → Describes bytes d
     → AssemblesTo s i bytes d text xs w → w.file ≡ Some f → IsOf bytes text f
 text_is s i bytes d text xs w f t (NotPlain a e) is = ends_without _ xs w f e is
 text_is s i bytes d text xs w f t (NoMatch a line l e) is = ends_without _ xs w f e is
 text_is s i bytes d text xs w f t (Words a words l last e) is =
     let g : Written = record { name = i; bytes = file (picture bytes d words) } in
-    let p = by_pc (has_pc d) g f (sym (ap (λ (k : Work). k.file) e) ∙ is) in
+    let p : g ≡ f = cc (sym (ap (λ (k : Work). k.file) e) ∙ is) in
     record {
       description = d;
-      described = record { tree = t.tree; accepted = t.accepted; built = record { plain = t.built.plain; built = p.0 } };
+      described = t;
       fit = a;
       words = words;
       assembles = l;
-      is = ap (λ (k : Written). k.bytes) p.1;
+      is = ap (λ (k : Written). k.bytes) (sym p);
     }
 
 plain_is : (name s i bytes text : List ℕ) (tree : Desc) (xs : List Asked) (w : Work) (f : Written) → IsAccepted bytes tree
-    → Simplifies purposes.Assembling name tree (λ d. Opens s (AssemblesTo s i bytes d)) ((s, Got text) ∷ xs) w → w.file ≡ Some f → IsOf bytes text f
+    → Simplifies name tree (λ d. Opens s (AssemblesTo s i bytes d)) ((s, Got text) ∷ xs) w → w.file ≡ Some f → IsOf bytes text f
 plain_is name s i bytes text tree xs w f a (Other none e) is = ends_without _ _ w f e is
 plain_is name s i bytes text tree xs w f a (Plain d built g) is =
     text_is s i bytes d text xs w f (record { tree = tree; accepted = a; built = built }) (goes_on s text xs _ w g) is
 
 bytes_are : (name s i bytes text : List ℕ) (xs : List Asked) (w : Work) (f : Written)
-    → Accepts name bytes (λ tree. Simplifies purposes.Assembling name tree (λ d. Opens s (AssemblesTo s i bytes d))) ((s, Got text) ∷ xs) w → w.file ≡ Some f → IsOf bytes text f
+    → Accepts name bytes (λ tree. Simplifies name tree (λ d. Opens s (AssemblesTo s i bytes d))) ((s, Got text) ∷ xs) w → w.file ≡ Some f → IsOf bytes text f
 bytes_are name s i bytes text xs w f (Faulty g h e) is = ends_without _ _ w f e is
 bytes_are name s i bytes text xs w f (Accepted tree a g) is = plain_is name s i bytes text tree xs w f a g is
 
@@ -120,7 +115,7 @@ some_run d i x bytes text entry steps f m blank =
           (Loaded (picture bytes o.description o.words) (image_of bytes text f o) (Opened entry _ refl (Ran blank r.0 r.1 (record { last = refl; is = refl }))))))),
     )
 
-entry_is : (x : List ℕ) (steps : ℕ) (d : Description) (words bytes text entry : List ℕ) (xs : List Asked) (w : Work) → Describes purposes.Running bytes d
+entry_is : (x : List ℕ) (steps : ℕ) (d : Description) (words bytes text entry : List ℕ) (xs : List Asked) (w : Work) → Describes bytes d
     → Assembles d (lines text) words → IsBlank entry → RunsTo x steps d words entry xs w → RunsText bytes text steps w
 entry_is x steps d words bytes text entry xs w described assembles blank (Input line a e) = absurd (cc (a, blank))
 entry_is x steps d words bytes text entry xs w described assembles blank (Ran a r runs e) =
@@ -136,17 +131,17 @@ image_is i x steps bytes text entry f w o blank (Loaded image v g) =
     (subst (λ (z : Picture). RunsTo x steps o.description z.words entry [] w) same (goes_on x entry [] _ w g))
 
 machine_is : (d i x : List ℕ) (steps : ℕ) (bytes text entry : List ℕ) (tree : Desc) (f : Written) (w : Work) (o : IsOf bytes text f) → IsBlank entry → tree ≡ o.described.tree
-    → Simplifies purposes.Running d tree (λ p. Opens i (λ bits. Loads i bytes p bits (λ words. Opens x (RunsTo x steps p words)))) ((i, Got f.bytes) ∷ (x, Got entry) ∷ []) w
+    → Simplifies d tree (λ p. Opens i (λ bits. Loads i bytes p bits (λ words. Opens x (RunsTo x steps p words)))) ((i, Got f.bytes) ∷ (x, Got entry) ∷ []) w
     → RunsText bytes text steps w
 machine_is d i x steps bytes text entry tree f w o blank e (Other none end) =
-    absurd (none o.description (subst (λ t. IsBuilt purposes.Running t o.description) (sym e) o.described.built))
+    absurd (none o.description (subst (λ t. IsBuilt t o.description) (sym e) o.described.built))
 machine_is d i x steps bytes text entry tree f w o blank e (Plain p built g) =
     let same = one_built tree p o.description built.plain (subst (λ t. IsPlainTree t o.description) (sym e) o.described.built.plain) in
     image_is i x steps bytes text entry f w o blank
     (subst (λ q. Loads i bytes q f.bytes (λ words. Opens x (RunsTo x steps q words)) ((x, Got entry) ∷ []) w) same (goes_on i f.bytes _ _ w g))
 
 accepted_is : (d i x : List ℕ) (steps : ℕ) (bytes text entry : List ℕ) (f : Written) (w : Work) (o : IsOf bytes text f) → IsBlank entry
-    → Accepts d bytes (λ tree. Simplifies purposes.Running d tree (λ p. Opens i (λ bits. Loads i bytes p bits (λ words. Opens x (RunsTo x steps p words)))))
+    → Accepts d bytes (λ tree. Simplifies d tree (λ p. Opens i (λ bits. Loads i bytes p bits (λ words. Opens x (RunsTo x steps p words)))))
     ((i, Got f.bytes) ∷ (x, Got entry) ∷ []) w → RunsText bytes text steps w
 accepted_is d i x steps bytes text entry f w o blank (Faulty g h e) = absurd (no_fault bytes o.described.tree g o.described.accepted h)
 accepted_is d i x steps bytes text entry f w o blank (Accepted tree a g) =

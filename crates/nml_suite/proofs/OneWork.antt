@@ -17,7 +17,6 @@ use Rattle.nml_suite.specs.Form.{Form, Check, Asm, Dis, Run, Cc, Ceval, Demo}
 use Rattle.nml_suite.specs.Reading.{Got, IsShort, Asked}
 use Rattle.nml_suite.specs.Reply.{Reply, unread, description_fault, no_match, bad_input, told_run}
 use Rattle.nml_suite.specs.Work.{Work, telling}
-use Rattle.nml_suite.specs.declared.purpose.Purpose.{Purpose}
 use Rattle.nml_suite.proofs.Images.{has_file}
 use Rattle.nml_suite.proofs.OneFault.{one_fault, no_fault, one_accepted, one_built}
 
@@ -59,13 +58,13 @@ accepts_one name bytes goes went xs ys w v h (Faulty f x e) (Accepted t a g) = a
 accepts_one name bytes goes went xs ys w v h (Accepted t a g) (Faulty f x e) = absurd (no_fault bytes t f a x)
 accepts_one name bytes goes went xs ys w v h (Accepted t a g) (Accepted u b d) = h u b (subst (λ z. goes z xs w) (one_accepted bytes t u a b) g) d
 
-simplifies_one : (purpose : Purpose) (name : List ℕ) (tree : Desc) (goes went : Description → List Asked → Work → Type 0) (xs ys : List Asked) (w v : Work)
+simplifies_one : (name : List ℕ) (tree : Desc) (goes went : Description → List Asked → Work → Type 0) (xs ys : List Asked) (w v : Work)
     → ((d : Description) → IsPlain d → goes d xs w → went d ys v → w ≡ v)
-    → Simplifies purpose name tree goes xs w → Simplifies purpose name tree went ys v → w ≡ v
-simplifies_one purpose name tree goes went xs ys w v h (Other none e) (Other no_other i) = both_end _ _ xs ys w v refl e i
-simplifies_one purpose name tree goes went xs ys w v h (Other none e) (Plain d b g) = absurd (none d b)
-simplifies_one purpose name tree goes went xs ys w v h (Plain d b g) (Other none e) = absurd (none d b)
-simplifies_one purpose name tree goes went xs ys w v h (Plain d b g) (Plain c k f) = h c k.plain.plain (subst (λ z. goes z xs w) (one_built tree d c b.plain k.plain) g) f
+    → Simplifies name tree goes xs w → Simplifies name tree went ys v → w ≡ v
+simplifies_one name tree goes went xs ys w v h (Other none e) (Other no_other i) = both_end _ _ xs ys w v refl e i
+simplifies_one name tree goes went xs ys w v h (Other none e) (Plain d b g) = absurd (none d b)
+simplifies_one name tree goes went xs ys w v h (Plain d b g) (Other none e) = absurd (none d b)
+simplifies_one name tree goes went xs ys w v h (Plain d b g) (Plain c k f) = h c k.plain.plain (subst (λ z. goes z xs w) (one_built tree d c b.plain k.plain) g) f
 
 -- ---- `asm`
 

@@ -15,12 +15,12 @@ use Rattle.plain_tools.proofs.HasOutcome.{has_outcome}
 use Rattle.plain_tools.proofs.Determined.{not_neither}
 use Rattle.nml_suite.specs.Coming.{EndsWith, Opens, Short, Opened, Accepts, Faulty, Accepted, Simplifies, Other, Plain, AssemblesTo, NotPlain, NoMatch, Words, Loads, NoImage, Loaded, RunsTo, Input, Ran, ComesTo, first_input, made}
 use Rattle.nml_suite.specs.Complete.{Answering, AllAnswer, AreAnswered, ComesOut}
-use Rattle.nml_suite.specs.Described.{IsBuilt}
+use Rattle.nml_types.proofs.Refusals.{typed_if_none}
+use Rattle.nml_suite.specs.Described.{Spells, NoTokens, NoTree, Floating, Refused, IsBuilt}
 use Rattle.nml_suite.specs.Form.{Form, Check, Asm, Dis, Run, Cc, Ceval, Demo}
 use Rattle.nml_suite.specs.Reading.{Reading, Got, Absent, Failed, TooLong, Unread, Asked}
 use Rattle.nml_suite.specs.Reply.{Reply, told_run}
 use Rattle.nml_suite.specs.Work.{Work, telling}
-use Rattle.nml_suite.specs.declared.purpose.Purpose.{Purpose}
 
 -- it can't be that reads that are answered so, the first of them being the one at this place, come to nothing
 abbrev Comes : Answering → ℕ → (List Asked → Work → Type 0) → Type 0
@@ -46,21 +46,23 @@ opens answers k name goes all h = opens_by answers k name goes (answers k name) 
 accepts_tree : (answers : Answering) (k : ℕ) (name bytes : List ℕ) (goes : Desc → List Asked → Work → Type 0) (tree : Desc) → IsTree bytes tree
     → ((tree : Desc) → Comes answers k (goes tree)) → (float_places tree ≡ []) ⊎ ((at : ℕ) × IsFloat bytes at) → Comes answers k (Accepts name bytes goes)
 accepts_tree answers k name bytes goes tree is h (inl clear) none =
-    h tree (λ asked work a g. none asked work a (Accepted tree (record { is = is; no_float = clear }) g))
-accepts_tree answers k name bytes goes tree is h (inr float) none = none [] _ tt (Faulty (faults.Float float.0) float.1 (record { last = refl; is = refl }))
+    let spelled : Spells bytes tree = record { is = is; no_float = clear } in
+    let typed = typed_if_none tree (λ f x. none [] _ tt (Faulty f (Refused tree spelled x) (record { last = refl; is = refl }))) in
+    h tree (λ asked work a g. none asked work a (Accepted tree (record { spelled = spelled; typed = typed }) g))
+accepts_tree answers k name bytes goes tree is h (inr float) none = none [] _ tt (Faulty (faults.Float float.0) (Floating float.0 refl float.1) (record { last = refl; is = refl }))
 
 accepts_by : (answers : Answering) (k : ℕ) (name bytes : List ℕ) (goes : Desc → List Asked → Work → Type 0) → ((tree : Desc) → Comes answers k (goes tree))
     → ((d : Desc) × IsTree bytes d) ⊎ (((at : ℕ) × HasNoTree bytes at) ⊎ ((at : ℕ) × IsStuckAt bytes at)) → Comes answers k (Accepts name bytes goes)
 accepts_by answers k name bytes goes h (inl x) none = accepts_tree answers k name bytes goes x.0 x.1 h (some_float bytes x.0 x.1) none
-accepts_by answers k name bytes goes h (inr (inl x)) none = none [] _ tt (Faulty (faults.Syntax x.0) x.1 (record { last = refl; is = refl }))
-accepts_by answers k name bytes goes h (inr (inr x)) none = none [] _ tt (Faulty (faults.Lex x.0) x.1 (record { last = refl; is = refl }))
+accepts_by answers k name bytes goes h (inr (inl x)) none = none [] _ tt (Faulty (faults.Syntax x.0) (NoTree x.0 refl x.1) (record { last = refl; is = refl }))
+accepts_by answers k name bytes goes h (inr (inr x)) none = none [] _ tt (Faulty (faults.Lex x.0) (NoTokens x.0 refl x.1) (record { last = refl; is = refl }))
 
 accepts : (answers : Answering) (k : ℕ) (name bytes : List ℕ) (goes : Desc → List Asked → Work → Type 0) → ((tree : Desc) → Comes answers k (goes tree)) → Comes answers k (Accepts name bytes goes)
 accepts answers k name bytes goes h = accepts_by answers k name bytes goes h (some_tree bytes)
 
-simplifies : (answers : Answering) (k : ℕ) (purpose : Purpose) (name : List ℕ) (tree : Desc) (goes : Description → List Asked → Work → Type 0)
-    → ((d : Description) → IsBuilt purpose tree d → Comes answers k (goes d)) → Comes answers k (Simplifies purpose name tree goes)
-simplifies answers k purpose name tree goes h none =
+simplifies : (answers : Answering) (k : ℕ) (name : List ℕ) (tree : Desc) (goes : Description → List Asked → Work → Type 0)
+    → ((d : Description) → IsBuilt tree d → Comes answers k (goes d)) → Comes answers k (Simplifies name tree goes)
+simplifies answers k name tree goes h none =
     none [] _ tt (Other (λ d built. h d built (λ asked work a g. none asked work a (Plain d built g))) (record { last = refl; is = refl }))
 
 -- ---- `asm`

@@ -19,8 +19,6 @@ use Rattle.nml_suite.specs.Form.{Form, Check, Asm, Dis, Run, Cc, Ceval, Demo, na
 use Rattle.nml_suite.specs.Reading.{Reading, Absent, Failed, TooLong}
 use Rattle.nml_suite.specs.Reply.{usage_line, unread, description_fault, not_built, not_built_file, no_match, bad_input, told_run}
 use Rattle.nml_suite.specs.Told.{EndsIn}
-use Rattle.nml_suite.specs.declared.purpose.Purpose.{Purpose}
-use Rattle.nml_suite.specs.declared.purpose.Purpose.TheVariants as purposes
 use Rattle.nml_suite.specs.declared.status.Status.{Status}
 use Rattle.nml_suite.specs.declared.status.Status.TheVariants as statuses
 
@@ -67,18 +65,18 @@ pub record HasFaultyDescription (before now : Moment) (form : Option Form) : Typ
   pub told : Took before.taken now.taken (description_fault file.name fault).text
 
 -- its bytes are accepted, and are no plain description that is built
-pub record HasOtherDescription (purpose : Purpose) (before now : Moment) (form : Option Form) : Type 0 where
+pub record HasOtherDescription (before now : Moment) (form : Option Form) : Type 0 where
   pub file : HasBytes before form 0
   pub tree : Desc
   pub accepted : IsAccepted file.bytes tree
-  pub none : (d : Description) → IsBuilt purpose tree d → ⊥
+  pub none : (d : Description) → IsBuilt tree d → ⊥
   pub told : Took before.taken now.taken (not_built_file file.name).text
 
 -- its bytes are a plain description that is built
-pub record HasDescription (purpose : Purpose) (before : Moment) (form : Option Form) : Type 0 where
+pub record HasDescription (before : Moment) (form : Option Form) : Type 0 where
   pub file : HasBytes before form 0
   pub plain : Description
-  pub described : Describes purpose file.bytes plain
+  pub described : Describes file.bytes plain
 
 -- ---- which words they are
 
@@ -108,7 +106,7 @@ IsOther (Some (Demo k)) = Unit {0}
 -- the description of `asm` and its text were read
 pub record HasText (before : Moment) (form : Option Form) : Type 0 where
   pub asm : IsAsm form
-  pub description : HasDescription purposes.Assembling before form
+  pub description : HasDescription before form
   pub text : HasBytes before form 1
 
 -- the text doesn't fit the description
@@ -125,7 +123,7 @@ pub record HasBadLine (before now : Moment) (form : Option Form) : Type 0 where
   pub fails : FailsAt files.description.plain (lines files.text.bytes) line
   pub told : Took before.taken now.taken (no_match files.text.name line).text
 
--- the text fits, its image was written where PC is declared, and its words are told
+-- the text fits, its image was written, and its words are told
 pub record HasWords (before now : Moment) (form : Option Form) : Type 0 where
   pub files : HasText before form
   pub fit : IsTrue (is_fit files.description.plain files.text.bytes)
@@ -142,7 +140,7 @@ pub record HasWords (before now : Moment) (form : Option Form) : Type 0 where
 pub record HasMachine (before : Moment) (form : Option Form) : Type 0 where
   pub steps : ℕ
   pub run : IsRun steps form
-  pub description : HasDescription purposes.Running before form
+  pub description : HasDescription before form
   pub image : HasBytes before form 1
 
 -- the image file is no image of the description
@@ -188,9 +186,9 @@ IsOtherHalt s = (code : ℕ) × (s ≡ Halted (suc code))
 -- the command isn't built, or a file isn't of the form that is
 pub data IsNotBuilt (before now : Moment) (form : Option Form) : Type 0 where
   Command : IsOther form → Took before.taken now.taken not_built.text → IsNotBuilt before now form
-  Assembled : IsAsm form → HasOtherDescription purposes.Assembling before now form → IsNotBuilt before now form
+  Assembled : IsAsm form → HasOtherDescription before now form → IsNotBuilt before now form
   Text : HasOtherText before now form → IsNotBuilt before now form
-  Machine : (steps : ℕ) → IsRun steps form → HasOtherDescription purposes.Running before now form → IsNotBuilt before now form
+  Machine : (steps : ℕ) → IsRun steps form → HasOtherDescription before now form → IsNotBuilt before now form
   Image : HasNoImage before now form → IsNotBuilt before now form
 
 -- The cause of an answer, and what was told. Want of memory has none; the statuses with none at all don't come.

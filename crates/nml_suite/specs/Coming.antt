@@ -14,13 +14,11 @@ use Rattle.plain_tools.specs.Assembly.{Assembles, FailsAt, is_fit}
 use Rattle.plain_tools.specs.PlainText.{lines}
 use Rattle.plain_tools.specs.Machine.{Runs, beginning}
 use Rattle.plain_tools.specs.Machine as machine
-use Rattle.nml_suite.specs.Described.{HasFault, IsAccepted, IsBuilt, has_pc}
+use Rattle.nml_suite.specs.Described.{HasFault, IsAccepted, IsBuilt}
 use Rattle.nml_suite.specs.Form.{Form, Check, Asm, Dis, Run, Cc, Ceval, Demo}
 use Rattle.nml_suite.specs.Reading.{Reading, Got, Asked, IsShort}
 use Rattle.nml_suite.specs.Reply.{Reply, reply, unread, usage_line, description_fault, not_built, not_built_file, no_match, bad_input, assembled, told_run}
 use Rattle.nml_suite.specs.Work.{Work, Written, telling}
-use Rattle.nml_suite.specs.declared.purpose.Purpose.{Purpose}
-use Rattle.nml_suite.specs.declared.purpose.Purpose.TheVariants as purposes
 use Rattle.nml_suite.specs.declared.status.Status.TheVariants as statuses
 
 -- ---- the steps of a command
@@ -41,9 +39,9 @@ pub data Accepts (name bytes : List ℕ) (goes : Desc → List Asked → Work �
   Accepted : (tree : Desc) → IsAccepted bytes tree → goes tree asked work → Accepts name bytes goes asked work
 
 -- A tree is looked at as a plain description: where it is none that is built the call ends with that, else it goes on with it.
-pub data Simplifies (purpose : Purpose) (name : List ℕ) (tree : Desc) (goes : Description → List Asked → Work → Type 0) (asked : List Asked) (work : Work) : Type 0 where
-  Other : ((d : Description) → IsBuilt purpose tree d → ⊥) → EndsWith (not_built_file name) asked work → Simplifies purpose name tree goes asked work
-  Plain : (d : Description) → IsBuilt purpose tree d → goes d asked work → Simplifies purpose name tree goes asked work
+pub data Simplifies (name : List ℕ) (tree : Desc) (goes : Description → List Asked → Work → Type 0) (asked : List Asked) (work : Work) : Type 0 where
+  Other : ((d : Description) → IsBuilt tree d → ⊥) → EndsWith (not_built_file name) asked work → Simplifies name tree goes asked work
+  Plain : (d : Description) → IsBuilt tree d → goes d asked work → Simplifies name tree goes asked work
 
 -- ---- `asm`
 
@@ -51,13 +49,13 @@ pub data Simplifies (purpose : Purpose) (name : List ℕ) (tree : Desc) (goes : 
 abbrev pub picture : List ℕ → Description → List ℕ → Picture
 picture bytes d words = record { digest = sha256 bytes; width = word_width d.rules; words = words; inits = [] }
 
--- the image is written where PC is declared
-abbrev pub written_image : List ℕ → List ℕ → Description → List ℕ → Option Written
-written_image name bytes d words = if has_pc d then Some (record { name = name; bytes = file (picture bytes d words) }) else None
+-- the image's file
+abbrev pub written_image : List ℕ → List ℕ → Description → List ℕ → Written
+written_image name bytes d words = record { name = name; bytes = file (picture bytes d words) }
 
 -- what the words of a text come to
 abbrev pub made : List ℕ → List ℕ → Description → List ℕ → Work
-made image bytes d words = record { file = written_image image bytes d words; reply = assembled (word_width d.rules) words }
+made image bytes d words = record { file = Some (written_image image bytes d words); reply = assembled (word_width d.rules) words }
 
 -- What `asm` comes to on a description, which these bytes are, and the bytes of a text.
 pub data AssemblesTo (source image bytes : List ℕ) (d : Description) (text : List ℕ) (asked : List Asked) (work : Work) : Type 0 where
@@ -72,7 +70,7 @@ abbrev pub AsmComesTo : List ℕ → List ℕ → List ℕ → List Asked → Wo
 AsmComesTo description source image =
     Opens description
     (λ bytes. Accepts description bytes
-    (λ tree. Simplifies purposes.Assembling description tree
+    (λ tree. Simplifies description tree
     (λ d. Opens source (AssemblesTo source image bytes d))))
 
 -- ---- `run`
@@ -103,7 +101,7 @@ abbrev pub RunComesTo : List ℕ → List ℕ → List ℕ → ℕ → List Aske
 RunComesTo description image input steps =
     Opens description
     (λ bytes. Accepts description bytes
-    (λ tree. Simplifies purposes.Running description tree
+    (λ tree. Simplifies description tree
     (λ d. Opens image
     (λ bits. Loads image bytes d bits
     (λ words. Opens input (RunsTo input steps d words))))))

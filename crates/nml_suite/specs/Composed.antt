@@ -10,7 +10,6 @@ use Rattle.nml_suite.specs.Described.{Describes}
 use Rattle.nml_suite.specs.Reply.{told_run}
 use Rattle.nml_suite.specs.Work.{Work, Written, telling}
 use Rattle.nml_suite.specs.Reading.{Got}
-use Rattle.nml_suite.specs.declared.purpose.Purpose.TheVariants as purposes
 
 -- from these bytes of a description and of a text `asm` makes this file, whatever the names
 pub record Makes (bytes text : List ℕ) (file : Written) : Type 0 where
@@ -28,7 +27,7 @@ IsBlank entry = first_input 1 (lines entry) ≡ None
 -- what is told is the run of the words of the text, on the machine that the description's bytes spell
 pub record RunsText (bytes text : List ℕ) (steps : ℕ) (w : Work) : Type 0 where
   pub description : Description
-  pub described : Describes purposes.Running bytes description
+  pub described : Describes bytes description
   pub words : List ℕ
   pub assembles : Assembles description (lines text) words
   pub run : machine.RunOutcome

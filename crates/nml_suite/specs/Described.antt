@@ -1,23 +1,28 @@
 -- What the bytes of a description are: which fault they have, or which tree they are accepted as, and which plain description that is.
-use Rattle.std.specs.Prelude.{◌≡◌, ℕ, List, [], length, IsTrue, Bool, true, false, nat_eq, nat_lt, is_none, ◌&&◌, ◌||◌}
-use Rattle.std.specs.List.{list_all}
+use Rattle.std.specs.Prelude.{◌≡◌, ℕ, List, [], length, IsTrue, Bool, true, false, nat_lt}
 use Rattle.plain_tree.specs.Description.{Description}
 use Rattle.nml_tree.specs.Floats.{float_places}
+use Rattle.nml_tree.specs.Refused.{IsTyped}
 use Rattle.plain_tree.specs.PlainTree.{IsPlainTree}
 use Rattle.nml_tree.specs.declared.tree.Desc.{Desc}
 use Rattle.nml_tree.specs.declared.fault.DescFault.{DescFault}
 use Rattle.nml_tree.specs.declared.fault.DescFault.TheVariants as faults
 use Rattle.nml_lex.specs.Lexed.{IsStuckAt}
 use Rattle.nml_grammar.specs.Trees.{IsTree, HasNoTree, IsFloat}
-use Rattle.nml_suite.specs.declared.purpose.Purpose.{Purpose}
-use Rattle.nml_suite.specs.declared.purpose.Purpose.TheVariants as purposes
+use Rattle.nml_types.specs.TypingFault.{IsTypingFault}
 
--- The bytes have this fault, and none that comes before it. The others aren't looked for yet, and want of memory is no fault of theirs.
-abbrev pub HasFault : List ℕ → DescFault → Type 0
-HasFault bytes (faults.Lex at) = IsStuckAt bytes at
-HasFault bytes (faults.Syntax at) = HasNoTree bytes at
-HasFault bytes (faults.Float at) = IsFloat bytes at
-HasFault bytes _ = ⊥
+-- the bytes spell this tree, which has no type `float`
+pub record Spells (bytes : List ℕ) (tree : Desc) : Type 0 where
+  pub is : IsTree bytes tree
+  pub no_float : float_places tree ≡ []
+
+-- The bytes have this fault, and none that comes before it: they are no tokens, or no tree, or one with a type `float`, or their tree is
+-- refused. Want of memory is no fault of theirs.
+pub data HasFault (bytes : List ℕ) (f : DescFault) : Type 0 where
+  NoTokens : (at : ℕ) → f ≡ faults.Lex at → IsStuckAt bytes at → HasFault bytes f
+  NoTree : (at : ℕ) → f ≡ faults.Syntax at → HasNoTree bytes at → HasFault bytes f
+  Floating : (at : ℕ) → f ≡ faults.Float at → IsFloat bytes at → HasFault bytes f
+  Refused : (tree : Desc) → Spells bytes tree → IsTypingFault tree f → HasFault bytes f
 
 -- memory was wanted, which is no fault of a description
 abbrev pub is_memory : DescFault → Bool
@@ -26,29 +31,20 @@ is_memory _ = false
 
 -- the bytes are accepted as this tree: they spell it, and it has no fault
 pub record IsAccepted (bytes : List ℕ) (tree : Desc) : Type 0 where
-  pub is : IsTree bytes tree
-  pub no_float : float_places tree ≡ []
+  pub spelled : Spells bytes tree
+  pub typed : IsTyped tree
 
--- PC is declared
+-- PC stands before the rules
 abbrev pub has_pc : Description → Bool
 has_pc d = nat_lt 0 (length d.regs)
 
--- rules alone, without registers, a port and actions
-abbrev pub is_bare : Description → Bool
-is_bare d = nat_eq (length d.regs) 0 && is_none d.out && list_all (λ r. nat_eq (length r.action) 0) d.rules
-
--- which plain descriptions are built so far: with PC, and for `asm` those of rules alone too
-abbrev pub is_built : Purpose → Description → Bool
-is_built purposes.Assembling d = has_pc d || is_bare d
-is_built purposes.Running d = has_pc d
-
 -- the tree is this plain description, which is built
-pub record IsBuilt (purpose : Purpose) (tree : Desc) (d : Description) : Type 0 where
+pub record IsBuilt (tree : Desc) (d : Description) : Type 0 where
   pub plain : IsPlainTree tree d
-  pub built : IsTrue (is_built purpose d)
+  pub built : IsTrue (has_pc d)
 
 -- the bytes are accepted, and are this plain description, which is built
-pub record Describes (purpose : Purpose) (bytes : List ℕ) (d : Description) : Type 0 where
+pub record Describes (bytes : List ℕ) (d : Description) : Type 0 where
   pub tree : Desc
   pub accepted : IsAccepted bytes tree
-  pub built : IsBuilt purpose tree d
+  pub built : IsBuilt tree d

@@ -17,13 +17,13 @@ use Rattle.nk_outside.specs.Count.{Rose}
 use Rattle.nk_outside.specs.Held.{SameElsewhere}
 use Rattle.nml_suite.specs.Answer.{AreNamed}
 use Rattle.nml_suite.specs.Coming.{EndsWith, IsImageOf, RunComesTo, written_image, first_input}
-use Rattle.nml_suite.specs.Described.{HasFault, IsAccepted, IsBuilt, Describes}
+use Rattle.nml_tree.specs.Refused.{IsTyped}
+use Rattle.nml_types.specs.TypingFault.{IsTypingFault}
+use Rattle.nml_suite.specs.Described.{HasFault, Spells, IsAccepted, IsBuilt, Describes}
 use Rattle.nml_suite.specs.Reading.{Store, Reading, Got, Absent, Failed, TooLong, IsShort, Asked, IsRead, AreRead}
 use Rattle.nml_suite.specs.Reply.{Reply, starved, unread, write_failed, description_fault, not_built_file, no_match, bad_input, assembled, told_run}
 use Rattle.nml_suite.specs.Work.{Work, Written, telling, IsWriteCall, HasWritten}
 use Rattle.nml_suite.specs.declared.assemble.Assembled.{Assembled}
-use Rattle.nml_suite.specs.declared.purpose.Purpose.{Purpose}
-use Rattle.nml_suite.specs.declared.purpose.Purpose.TheVariants as purposes
 use Rattle.nml_suite.specs.declared.ready.Ready.{Ready}
 use Rattle.nml_suite.specs.declared.refusal.Refusal.{Refusal}
 use Rattle.nml_suite.specs.declared.refusal.Refusal.TheVariants as refusals
@@ -80,36 +80,51 @@ pub record IsFaulty (name bytes : List ℕ) (told : Reply) : Type 0 where
   pub faulty : HasFault bytes fault
   pub is : told ≡ description_fault name fault
 
+-- the bytes spell a tree, or they have a fault, or memory was wanted
+abbrev pub IsSpelledAs : List ℕ → List ℕ → Result Desc Refusal → Type 0
+IsSpelledAs name bytes (Ok tree) = Spells bytes tree
+IsSpelledAs name bytes (Err refusal) = Wants refusal ⊎ IsFaulty name bytes (refused refusal)
+
+-- the tree has a fault, which is told
+pub record IsRefusedTree (name : List ℕ) (tree : Desc) (told : Reply) : Type 0 where
+  pub fault : DescFault
+  pub faulty : IsTypingFault tree fault
+  pub is : told ≡ description_fault name fault
+
+-- the tree is typed, or it has a fault, or memory was wanted
+abbrev pub IsTypedAs : List ℕ → Desc → Result Desc Refusal → Type 0
+IsTypedAs name tree (Ok t) = (t ≡ tree) × IsTyped tree
+IsTypedAs name tree (Err refusal) = Wants refusal ⊎ IsRefusedTree name tree (refused refusal)
+
 -- the bytes are accepted, or they have a fault, or memory was wanted
 abbrev pub IsReadAs : List ℕ → List ℕ → Result Desc Refusal → Type 0
 IsReadAs name bytes (Ok tree) = IsAccepted bytes tree
 IsReadAs name bytes (Err refusal) = Wants refusal ⊎ IsFaulty name bytes (refused refusal)
 
 -- the tree is the description, or none that is built, or memory was wanted
-abbrev pub IsDescribedBy : Purpose → List ℕ → Desc → Result Plain Refusal → Type 0
-IsDescribedBy purpose name tree (Ok p) = IsBuilt purpose tree (description_of p)
-IsDescribedBy purpose name tree (Err refusal) =
-    Wants refusal ⊎ ((refused refusal ≡ not_built_file name) × ((d : Description) → IsBuilt purpose tree d → ⊥))
+abbrev pub IsDescribedBy : List ℕ → Desc → Result Plain Refusal → Type 0
+IsDescribedBy name tree (Ok p) = IsBuilt tree (description_of p)
+IsDescribedBy name tree (Err refusal) =
+    Wants refusal ⊎ ((refused refusal ≡ not_built_file name) × ((d : Description) → IsBuilt tree d → ⊥))
 
 -- the bytes are accepted, and are no plain description that is built
-pub record IsNoDescription (purpose : Purpose) (name bytes : List ℕ) (told : Reply) : Type 0 where
+pub record IsNoDescription (name bytes : List ℕ) (told : Reply) : Type 0 where
   pub tree : Desc
   pub accepted : IsAccepted bytes tree
-  pub none : (d : Description) → IsBuilt purpose tree d → ⊥
+  pub none : (d : Description) → IsBuilt tree d → ⊥
   pub is : told ≡ not_built_file name
 
 -- the bytes are the description; or they have a fault, or are none, or memory was wanted
-abbrev pub IsDescribed : Purpose → List ℕ → List ℕ → Result Plain Refusal → Type 0
-IsDescribed purpose name bytes (Ok p) = Describes purpose bytes (description_of p)
-IsDescribed purpose name bytes (Err refusal) =
-    Wants refusal ⊎ (IsFaulty name bytes (refused refusal) ⊎ IsNoDescription purpose name bytes (refused refusal))
+abbrev pub IsDescribed : List ℕ → List ℕ → Result Plain Refusal → Type 0
+IsDescribed name bytes (Ok p) = Describes bytes (description_of p)
+IsDescribed name bytes (Err refusal) =
+    Wants refusal ⊎ (IsFaulty name bytes (refused refusal) ⊎ IsNoDescription name bytes (refused refusal))
 
 -- ---- `asm`
 
 -- the file that was made, under a name
-abbrev pub file_named : List ℕ → Option (Vec ℕ) → Option Written
-file_named name None = None
-file_named name (Some bytes) = Some (record { name = name; bytes = bytes.items })
+abbrev pub file_named : List ℕ → Vec ℕ → Written
+file_named name bytes = record { name = name; bytes = bytes.items }
 
 -- these are the words, their width, and the file of their image
 pub record IsMade (bytes : List ℕ) (d : Description) (words : List ℕ) (all : Assembled) : Type 0 where
@@ -143,15 +158,13 @@ IsAssembledText bytes d name text (Err refusal) = Wants refusal ⊎ (IsOtherText
 
 -- what comes of the words or a refusal
 abbrev pub settled : List ℕ → Result Assembled Refusal → Work
-settled image (Ok all) = record { file = file_named image all.file; reply = assembled all.image.width all.image.words.items }
+settled image (Ok all) = record { file = Some (file_named image all.file); reply = assembled all.image.width all.image.words.items }
 settled image (Err refusal) = telling (refused refusal)
 
--- the file was written, where there is one; or its write failed; or memory was wanted for it
-abbrev pub IsStored : Store → Store → Option Written → Result (Unit {0}) Refusal → Type 0
-IsStored before now None (Ok done) = now ≡ before
-IsStored before now None (Err refusal) = ⊥
-IsStored before now (Some file) (Ok done) = HasWritten before now file
-IsStored before now (Some file) (Err refusal) =
+-- the file was written; or its write failed; or memory was wanted for it
+abbrev pub IsStored : Store → Store → Written → Result (Unit {0}) Refusal → Type 0
+IsStored before now file (Ok done) = HasWritten before now file
+IsStored before now file (Err refusal) =
     IsWriteCall before now
     × (((refused refusal ≡ write_failed file.name) × SameElsewhere file.name before.held now.held × Rose before.counts.write_faults now.counts.write_faults)
     ⊎ (Wants refusal × (now.held ≡ before.held)))
@@ -176,7 +189,7 @@ TellsRunOf steps d words asked work = (r : machine.RunOutcome) × Runs d words s
 -- all three files were read, and a run may begin
 pub record IsReady (before now : Store) (description image input : List ℕ) (p : Plain) (i : Image) : Type 0 where
   pub bytes : List ℕ
-  pub described : Describes purposes.Running bytes (description_of p)
+  pub described : Describes bytes (description_of p)
   pub arrives : (steps : ℕ)
       → Arrives before now (description ∷ image ∷ input ∷ []) [] (RunComesTo description image input steps) (TellsRunOf steps (description_of p) i.words.items)
 

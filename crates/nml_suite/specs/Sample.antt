@@ -14,12 +14,11 @@ use Rattle.plain_tools.specs.PlainText.{lines}
 use Rattle.plain_tools.specs.SampleRun as runs
 use Rattle.plain_tools.specs.Assembly.{Assembles}
 use Rattle.nml_suite.specs.Coming.{Opened, Accepted, Plain, Words, RunsTo, Input, Ran, AsmComesTo, first_input, written_image, picture}
-use Rattle.nml_suite.specs.Described.{IsAccepted, is_built}
+use Rattle.nml_suite.specs.Described.{IsAccepted, has_pc}
 use Rattle.nml_suite.specs.Reading.{Got}
 use Rattle.nml_suite.specs.Form.{Asm, Run, Demo, form_of, files_to_read, file_to_write}
 use Rattle.nml_suite.specs.Reply.{description_fault, reply, output_lines, word_lines}
 use Rattle.nml_suite.specs.Work.{telling}
-use Rattle.nml_suite.specs.declared.purpose.Purpose.TheVariants as purposes
 use Rattle.nml_suite.specs.declared.status.Status.TheVariants as statuses
 
 asm_form : form_of (codes "asm" ∷ codes "m0" ∷ codes "s" ∷ codes "i" ∷ []) ≡ Some (Asm (codes "m0") (codes "s") (codes "i"))
@@ -89,21 +88,14 @@ shapes_line = refl
 root_line : (description_fault (codes "m") (faults.Root roots.Instruction)).text ≡ codes "m: N11 Root instruction\n"
 root_line = refl
 
--- rules alone are assembled and not run
-assembles_rules : is_built purposes.Assembling sample.machine ≡ true
-assembles_rules = refl
+-- rules alone aren't built
+no_rules : has_pc sample.machine ≡ false
+no_rules = refl
 
-runs_no_rules : is_built purposes.Running sample.machine ≡ false
-runs_no_rules = refl
+with_pc : has_pc sample.running_machine ≡ true
+with_pc = refl
 
-runs_machine : is_built purposes.Running sample.running_machine ≡ true
-runs_machine = refl
-
--- an image is written where there is PC
-no_image : written_image (codes "i") (codes "d") sample.machine runs.words ≡ None
-no_image = refl
-
-an_image : written_image (codes "i") (codes "d") sample.running_machine runs.words ≡ Some (record { name = codes "i"; bytes = file (picture (codes "d") sample.running_machine runs.words) })
+an_image : written_image (codes "i") (codes "d") sample.running_machine runs.words ≡ record { name = codes "i"; bytes = file (picture (codes "d") sample.running_machine runs.words) }
 an_image = refl
 
 -- blank lines count, and the first that isn't blank is told

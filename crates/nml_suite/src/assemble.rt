@@ -7,9 +7,8 @@ ghost use Rattle.nml_suite.specs.Refusing.{IsAssembledText, IsMade, IsStored, Se
 ghost use Rattle.plain_tree.specs.Description.{description_of};
 ghost use Rattle.plain_tree.specs.IsPlain.{IsPlain, word_width};
 
-use crate::describe::{describe, has_pc};
+use crate::describe::describe;
 use crate::load::load;
-use crate::purpose::Purpose;
 use crate::refusal::Refusal;
 use image_file::{Image, write};
 use nk_base::{Memory, Text};
@@ -19,11 +18,11 @@ use plain_tree::{Plain, word_bits};
 use sha2::{Digest, Sha256};
 use std::alloc::Global;
 
-/// The image of a text's words, and its file where one is written.
+/// The image of a text's words, and its file.
 #[derive(Drop)]
 pub struct Assembled {
     pub image: Image,
-    pub file: Option<Vec<u8>>,
+    pub file: Vec<u8>,
 }
 
 /// Reads a description and a text, and assembles the text: the description is refused first. Nothing is written yet.
@@ -36,7 +35,7 @@ pub fn assemble<'a, F: Files>(
     ensures { (image : List ℕ) → Settles (store (F.held files.old) (F.counts files.old)) (store (F.held files.new) (F.counts files.new)) (description.now ∷ source.now ∷ []) (AsmComesTo description.now source.now image) (settled image result) }
 {
     let bytes = load(alloc, files, description)?;
-    let plain = describe(alloc, description, &bytes, Purpose::Assembling)?;
+    let plain = describe(alloc, description, &bytes)?;
     let text = load(alloc, files, source)?;
     words_of(alloc, source, &plain, &bytes, &text)
 }
@@ -49,7 +48,8 @@ fn words_of<'a>(
     bytes: &[u8],
     text: &[u8],
 ) -> Result<Assembled, Refusal<'a>>
-    requires { IsPlain (description_of plain.now) }
+    requires plain { IsPlain (description_of plain.now) }
+    requires pc { IsTrue (has_pc (description_of plain.now)) }
     ensures { IsAssembledText bytes.now (description_of plain.now) name.now text.now result }
 {
     match plain_words(alloc, plain, text) {
@@ -63,7 +63,7 @@ fn words_of<'a>(
     }
 }
 
-/// The image of the words, and its file where PC is declared.
+/// The image of the words, and its file.
 fn made_of(
     alloc: Global,
     plain: &Plain,
@@ -72,7 +72,7 @@ fn made_of(
 ) -> Result<Assembled, Memory>
     requires plain { IsPlain (description_of plain.now) }
     requires fit { AllByRecursion (λ w. w < 2 ^ word_width (description_of plain.now).rules) words.items }
-    requires count { IsTrue (has_pc (description_of plain.now)) → length words.items ≤ 65536 }
+    requires count { length words.items ≤ 65536 }
     ensures { IfOk result (λ made. IsMade bytes.now (description_of plain.now) words.items made) }
 {
     let image = Image {
@@ -81,15 +81,11 @@ fn made_of(
         words,
         inits: Vec::new(alloc),
     };
-    let file = if has_pc(plain) {
-        Some(write(alloc, &image)?)
-    } else {
-        None
-    };
+    let file = write(alloc, &image)?;
     Ok(Assembled { image, file })
 }
 
-/// Writes the image's file under the name, where there is one.
+/// Writes the image's file under the name.
 pub fn save<'a, F: Files>(
     alloc: Global,
     files: &mut F,
@@ -98,10 +94,7 @@ pub fn save<'a, F: Files>(
 ) -> Result<(), Refusal<'a>>
     ensures { IsStored (store (F.held files.old) (F.counts files.old)) (store (F.held files.new) (F.counts files.new)) (file_named name.now made.now.file) result }
 {
-    let Some(bytes) = &made.file else {
-        return Ok(());
-    };
-    match files.write(alloc, name, bytes) {
+    match files.write(alloc, name, &made.file) {
         Ok(()) => Ok(()),
         Err(WriteFault::Failed) => Err(Refusal::Unwritten(name)),
         Err(WriteFault::Memory) => Err(Refusal::Memory),

@@ -8,7 +8,6 @@ mod describe;
 mod fault;
 mod law;
 mod load;
-mod purpose;
 mod ready;
 mod refusal;
 mod run;

@@ -9,7 +9,6 @@ ghost use Rattle.plain_tools.specs.PlainText.{lines};
 
 use crate::describe::describe;
 use crate::load::load;
-use crate::purpose::Purpose;
 use crate::refusal::Refusal;
 use image_file::Image;
 use nk_base::byte::is_blank;
@@ -38,7 +37,7 @@ pub fn prepare<'a, F: Files>(
     ensures { RunSettles (store (F.held files.old) (F.counts files.old)) (store (F.held files.new) (F.counts files.new)) description.now image.now input.now result }
 {
     let bytes = load(alloc, files, description)?;
-    let plain = describe(alloc, description, &bytes, Purpose::Running)?;
+    let plain = describe(alloc, description, &bytes)?;
     let bits = load(alloc, files, image)?;
     let found = find_image(alloc, image, &plain, &bytes, &bits)?;
     let text = load(alloc, files, input)?;

@@ -13,19 +13,19 @@ returns-in_err-plain g c = λ i.
     let p = err_from_is_err_and c.from_residual-in_err-plain.result c.from_residual-in_err-plain.ensures.1 in
     rw (p.1, p.2)
     (arrived _ _ _ _ _ _ _ _ (opened _ _ _ _ _ _ c.in_ok-bytes.ensures)
-    (not_described _ _ _ _ _ _ _ (rw c.deref.ensures.value at c.in_err-plain.ensures)))
+    (not_described _ _ _ _ _ _ (rw c.deref.ensures.value at c.in_err-plain.ensures)))
 
 pub returns-in_err-text : goal.returns-in_err-text
 returns-in_err-text g c = λ i.
     let p = err_from_is_err_and c.from_residual-in_err-text.result c.from_residual-in_err-text.ensures.1 in
     rw (p.1, p.2)
     (arrived _ _ _ _ _ _ _ _ (opened _ _ _ _ _ _ c.in_ok-bytes.ensures)
-    (arrived _ _ _ _ _ _ _ _ (described _ _ _ _ _ (description_of c.in_ok-plain.plain) _ (rw c.deref.ensures.value at c.in_ok-plain.ensures))
+    (arrived _ _ _ _ _ _ _ _ (described _ _ _ _ (description_of c.in_ok-plain.plain) _ (rw c.deref.ensures.value at c.in_ok-plain.ensures))
     (not_opened _ _ _ _ _ _ c.in_err-text.ensures)))
 
 pub returns : goal.returns
 returns g c = λ i.
     arrived _ _ _ _ _ _ _ _ (opened _ _ _ _ _ _ c.in_ok-bytes.ensures)
-    (arrived _ _ _ _ _ _ _ _ (described _ _ _ _ _ (description_of c.in_ok-plain.plain) _ (rw c.deref.ensures.value at c.in_ok-plain.ensures))
+    (arrived _ _ _ _ _ _ _ _ (described _ _ _ _ (description_of c.in_ok-plain.plain) _ (rw c.deref.ensures.value at c.in_ok-plain.ensures))
     (arrived _ _ _ _ _ _ _ _ (opened _ _ _ _ _ _ c.in_ok-text.ensures)
     (assembled_text _ _ i _ _ _ c.words_of.result (rw (c.deref-2.ensures.value, c.deref-3.ensures.value) at c.words_of.ensures))))

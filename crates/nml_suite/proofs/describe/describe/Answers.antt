@@ -5,7 +5,7 @@ use Rattle.nml_suite.proofs.describe.describe.Goals as goal
 pub returns-in_err-tree : goal.returns-in_err-tree
 returns-in_err-tree c =
     let p = err_from_is_err_and c.from_residual.result c.from_residual.ensures.1 in
-    rw (p.1, p.2) (not_accepted c.args.purpose c.args.name.now c.args.bytes.now _ c.in_err-tree.ensures)
+    rw (p.1, p.2) (not_accepted c.args.name.now c.args.bytes.now _ c.in_err-tree.ensures)
 
 pub returns : goal.returns
-returns c = accepted c.args.purpose c.args.name.now c.args.bytes.now c.in_ok-tree.tree c.described.result c.in_ok-tree.ensures c.described.ensures
+returns c = accepted c.args.name.now c.args.bytes.now c.in_ok-tree.tree c.described.result c.in_ok-tree.ensures c.described.ensures

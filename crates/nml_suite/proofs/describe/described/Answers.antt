@@ -4,7 +4,7 @@ use Rattle.nml_suite.proofs.describe.described.Goals as goal
 
 pub returns-in-Ok-Some : goal.returns-in-Ok-Some
 returns-in-Ok-Some c =
-    described_by c.args.purpose c.args.name.now c.args.tree.now c.in-Ok-Some.found c.built.result
+    described_by c.args.name.now c.args.tree.now c.in-Ok-Some.found c.built.result
     (rw c.in-Ok-Some.field-0-is at c.in-Ok-Some.ensures) c.built.ensures.kept c.built.ensures.other
 
 pub returns-in-Ok-None : goal.returns-in-Ok-None

@@ -13,14 +13,14 @@ returns-in_err-plain g c =
     let p = err_from_is_err_and c.from_residual-in_err-plain.result c.from_residual-in_err-plain.ensures.1 in
     rw (p.1, p.2)
     (λ steps. arrived _ _ _ _ _ _ _ _ (opened _ _ _ _ _ _ c.in_ok-bytes.ensures)
-    (not_described _ _ _ _ _ _ _ (rw c.deref.ensures.value at c.in_err-plain.ensures)))
+    (not_described _ _ _ _ _ _ (rw c.deref.ensures.value at c.in_err-plain.ensures)))
 
 pub returns-in_err-bits : goal.returns-in_err-bits
 returns-in_err-bits g c =
     let p = err_from_is_err_and c.from_residual-in_err-bits.result c.from_residual-in_err-bits.ensures.1 in
     rw (p.1, p.2)
     (λ steps. arrived _ _ _ _ _ _ _ _ (opened _ _ _ _ _ _ c.in_ok-bytes.ensures)
-    (arrived _ _ _ _ _ _ _ _ (described _ _ _ _ _ (description_of c.in_ok-plain.plain) _ (rw c.deref.ensures.value at c.in_ok-plain.ensures))
+    (arrived _ _ _ _ _ _ _ _ (described _ _ _ _ (description_of c.in_ok-plain.plain) _ (rw c.deref.ensures.value at c.in_ok-plain.ensures))
     (not_opened _ _ _ _ _ _ c.in_err-bits.ensures)))
 
 pub returns-in_err-found : goal.returns-in_err-found
@@ -28,7 +28,7 @@ returns-in_err-found g c =
     let p = err_from_is_err_and c.from_residual-in_err-found.result c.from_residual-in_err-found.ensures.1 in
     rw (p.1, p.2)
     (λ steps. arrived _ _ _ _ _ _ _ _ (opened _ _ _ _ _ _ c.in_ok-bytes.ensures)
-    (arrived _ _ _ _ _ _ _ _ (described _ _ _ _ _ (description_of c.in_ok-plain.plain) _ (rw c.deref.ensures.value at c.in_ok-plain.ensures))
+    (arrived _ _ _ _ _ _ _ _ (described _ _ _ _ (description_of c.in_ok-plain.plain) _ (rw c.deref.ensures.value at c.in_ok-plain.ensures))
     (arrived _ _ _ _ _ _ _ _ (opened _ _ _ _ _ _ c.in_ok-bits.ensures)
     (not_loaded _ _ _ _ _ _ _ _ (rw (c.deref-2.ensures.value, c.deref-3.ensures.value) at c.in_err-found.ensures)))))
 
@@ -37,7 +37,7 @@ returns-in_err-text g c =
     let p = err_from_is_err_and c.from_residual-in_err-text.result c.from_residual-in_err-text.ensures.1 in
     rw (p.1, p.2)
     (λ steps. arrived _ _ _ _ _ _ _ _ (opened _ _ _ _ _ _ c.in_ok-bytes.ensures)
-    (arrived _ _ _ _ _ _ _ _ (described _ _ _ _ _ (description_of c.in_ok-plain.plain) _ (rw c.deref.ensures.value at c.in_ok-plain.ensures))
+    (arrived _ _ _ _ _ _ _ _ (described _ _ _ _ (description_of c.in_ok-plain.plain) _ (rw c.deref.ensures.value at c.in_ok-plain.ensures))
     (arrived _ _ _ _ _ _ _ _ (opened _ _ _ _ _ _ c.in_ok-bits.ensures)
     (arrived _ _ _ _ _ _ _ _ (loaded _ _ _ _ _ _ c.in_ok-found.found _ (rw (c.deref-2.ensures.value, c.deref-3.ensures.value) at c.in_ok-found.ensures))
     (not_opened _ _ _ _ _ _ c.in_err-text.ensures)))))
@@ -47,7 +47,7 @@ returns-in_err-refuse_input g c =
     let p = err_from_is_err_and c.from_residual-in_err-refuse_input.result c.from_residual-in_err-refuse_input.ensures.1 in
     rw (p.1, p.2)
     (λ steps. arrived _ _ _ _ _ _ _ _ (opened _ _ _ _ _ _ c.in_ok-bytes.ensures)
-    (arrived _ _ _ _ _ _ _ _ (described _ _ _ _ _ (description_of c.in_ok-plain.plain) _ (rw c.deref.ensures.value at c.in_ok-plain.ensures))
+    (arrived _ _ _ _ _ _ _ _ (described _ _ _ _ (description_of c.in_ok-plain.plain) _ (rw c.deref.ensures.value at c.in_ok-plain.ensures))
     (arrived _ _ _ _ _ _ _ _ (opened _ _ _ _ _ _ c.in_ok-bits.ensures)
     (arrived _ _ _ _ _ _ _ _ (loaded _ _ _ _ _ _ c.in_ok-found.found _ (rw (c.deref-2.ensures.value, c.deref-3.ensures.value) at c.in_ok-found.ensures))
     (arrived _ _ _ _ _ _ _ _ (opened _ _ _ _ _ _ c.in_ok-text.ensures)
@@ -58,7 +58,7 @@ returns g c = record {
   bytes = _;
   described = rw c.deref.ensures.value at c.in_ok-plain.ensures;
   arrives = λ steps. both _ _ _ _ _ _ _ _ _ (opened _ _ _ _ _ _ c.in_ok-bytes.ensures)
-      (both _ _ _ _ _ _ _ _ _ (described _ _ _ _ _ (description_of c.in_ok-plain.plain) _ (rw c.deref.ensures.value at c.in_ok-plain.ensures))
+      (both _ _ _ _ _ _ _ _ _ (described _ _ _ _ (description_of c.in_ok-plain.plain) _ (rw c.deref.ensures.value at c.in_ok-plain.ensures))
       (both _ _ _ _ _ _ _ _ _ (opened _ _ _ _ _ _ c.in_ok-bits.ensures)
       (both _ _ _ _ _ _ _ _ _ (loaded _ _ _ _ _ _ c.in_ok-found.found _ (rw (c.deref-2.ensures.value, c.deref-3.ensures.value) at c.in_ok-found.ensures))
       (both _ _ _ _ _ _ _ _ _ (opened _ _ _ _ _ _ c.in_ok-text.ensures)

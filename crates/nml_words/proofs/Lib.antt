@@ -1,0 +1,4 @@
+mod Spans
+mod Maps
+mod Pass
+mod Faults
