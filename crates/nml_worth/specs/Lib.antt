@@ -1,0 +1,4 @@
+pub mod Shown
+pub mod Node
+pub mod Known
+pub mod Around
