@@ -1,0 +1,4 @@
+pub mod Shows
+pub mod Digits
+pub mod Kept
+pub mod Scopes

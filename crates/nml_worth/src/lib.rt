@@ -3,14 +3,16 @@
 
 mod kind;
 mod node;
-mod rules;
+
+
+mod operate;
 mod scope;
-mod seen;
+mod told;
 mod worth;
 
 pub use kind::Kind;
 pub use node::{Fit, Node, Prefix, top};
-pub use rules::rule_worths;
-pub use scope::Scope;
-pub use seen::{Seen, expr};
+
+
+
 pub use worth::{Cap, Worth};

@@ -1,17 +1,21 @@
 //! What stands round the expressions of a rule.
 
-ghost use Rattle.std.specs.Prelude.{◌≡◌, IfOk, option_map};
+ghost use Rattle.std.specs.Prelude.{◌≡◌, ◌∷◌, IfOk, List, OnOk, map, option_map};
 ghost use Rattle.nml_known.specs.Known.{parameter_told};
 ghost use Rattle.nml_tree.specs.Directives as directives;
 ghost use Rattle.nml_tree.specs.Worth.{of_name};
-ghost use Rattle.nml_worth.specs.Around.{around, PartsKnown};
+ghost use Rattle.nml_tree.specs.declared.tree.Par.{Par};
+ghost use Rattle.nml_tree.specs.Table.{parameter_of, pars_of, table};
+ghost use Rattle.nml_worth.specs.Around as spec;
+ghost use Rattle.nml_worth.specs.Around.{AreGiven, PartKnown, PartsIn, PartsKnown, around};
 ghost use Rattle.nml_worth.specs.Shown.{shown};
 
-use crate::worth::Worth;
+use crate::told::{of_known, of_type};
+use crate::worth::{Worth, unknown};
 use indexmap::IndexMap;
 use nk_base::{Memory, Text};
 use nml_known::{Names, Parameter};
-use nml_tree::Pars;
+use nml_tree::{Par, Pars};
 use std::alloc::Global;
 use std::marker::Model;
 
@@ -34,13 +38,18 @@ pub struct Scope<'a> {
 
 impl<'a> Model for Scope<'a> {
     ghost use Rattle.std.specs.Coded.{codes, coded×};
+    ghost use Rattle.nml_tree.specs.contracts.tree.Desc as d;
+    ghost use Rattle.nml_tree.specs.contracts.tree.Pars as p;
+    ghost use Rattle.nml_tree.specs.Table.{pars_of};
     ghost use Rattle.nml_worth.specs.Around.{AreGiven, Place};
 
     ghost Value = { Place };
 
+    ghost coded = { Prim.hlevel (codes, d.the_row.coded, p.the_row.coded) };
+
     ghost view = { λ s. (s.names.now, s.pars.now) };
 
-    ghost invariant = { λ s. AreGiven (s.names.now, s.pars.now) s.found.entries };
+    ghost invariant = { λ s. AreGiven s.names.now (pars_of s.pars.now) s.found.entries };
 }
 
 impl<'a> Scope<'a> {
@@ -55,14 +64,7 @@ impl<'a> Scope<'a> {
         requires { PartsKnown (names.now, pars.now) worths.now }
         ensures { IfOk result (λ s. s ≡ (names.now, pars.now)) }
     {
-        let mut found = IndexMap::new(alloc);
-        match pars {
-            None => (),
-            Some(ps) => {
-                add(names, &ps.first, worths, &mut found)?;
-                add_rest(names, ps.rest.as_slice(), worths, &mut found)?;
-            }
-        }
+        let found = all_given(alloc, names, pars, worths)?;
         Ok(Scope { names, pars, found })
     }
 
@@ -74,6 +76,7 @@ impl<'a> Scope<'a> {
     }
 
     /// What the name is worth as an expression. It takes no memory.
+    
     pub fn name(&self, name: &Text) -> Worth
         ensures { result ≡ shown (of_name (around self.now) name.now) }
     {
@@ -90,6 +93,84 @@ impl<'a> Scope<'a> {
         match self.found.get(name) {
             None => None,
             Some(given) => given.parameter,
+        }
+    }
+}
+
+/// What the parameter is worth.
+fn par_worth(p: Option<Parameter>, worths: &[Worth]) -> Worth
+    ensures { result ≡ spec.par_worth worths.now p }
+{
+    match p {
+        None => unknown(),
+        Some(Parameter::Field(ty)) => of_type(ty),
+        Some(Parameter::Part(n)) => match worths.get(n) {
+            None => unknown(),
+            Some(w) => *w,
+        },
+    }
+}
+
+/// What is told of the parameter.
+fn told_of(names: &Names<'_>, p: &Par, worths: &[Worth]) -> Given
+    requires { PartKnown names.now worths.now (parameter_of (table names.now) p.now.ty) }
+    ensures { result ≡ spec.given names.now (parameter_of (table names.now) p.now.ty) }
+{
+    let parameter = names.parameter_of(&p.ty);
+    Given {
+        parameter,
+        worth: par_worth(parameter, worths),
+    }
+}
+
+/// Adds the parameter before those that are there.
+fn add(
+    names: &Names<'_>,
+    p: &Par,
+    worths: &[Worth],
+    found: &mut IndexMap<Text, Given>,
+) -> Result<(), Memory>
+    requires { PartKnown names.now worths.now (parameter_of (table names.now) p.now.ty) }
+    ensures { OnOk result ((ps : List Par) → AreGiven names.now ps found.old.entries → AreGiven names.now (p.now ∷ ps) found.new.entries) }
+{
+    let one = told_of(names, p, worths);
+    found.insert(p.name.text.clone()?, one)?;
+    Ok(())
+}
+
+/// Further parameters.
+fn further(
+    alloc: Global,
+    names: &Names<'_>,
+    rest: &[(u32, Par)],
+    worths: &[Worth],
+) -> Result<IndexMap<Text, Given>, Memory>
+    requires { PartsIn names.now worths.now (map (λ (comma, p). p) rest.now) }
+    ensures { IfOk result (λ m. AreGiven names.now (map (λ (comma, p). p) rest.now) m.entries) }
+{
+    let mut found = IndexMap::new(alloc);
+    for i in (0..rest.len()).rev() {
+        add(names, &rest[i].1, worths, &mut found)?;
+    }
+    Ok(found)
+}
+
+/// The parameters of a rule.
+fn all_given(
+    alloc: Global,
+    names: &Names<'_>,
+    pars: &Option<Pars>,
+    worths: &[Worth],
+) -> Result<IndexMap<Text, Given>, Memory>
+    requires { PartsIn names.now worths.now (pars_of pars.now) }
+    ensures { IfOk result (λ m. AreGiven names.now (pars_of pars.now) m.entries) }
+{
+    match pars {
+        None => Ok(IndexMap::new(alloc)),
+        Some(ps) => {
+            let mut found = further(alloc, names, ps.rest.as_slice(), worths)?;
+            add(names, &ps.first, worths, &mut found)?;
+            Ok(found)
         }
     }
 }
