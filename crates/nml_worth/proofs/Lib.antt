@@ -2,3 +2,4 @@ pub mod Shows
 pub mod Digits
 pub mod Kept
 pub mod Scopes
+pub mod Nodes

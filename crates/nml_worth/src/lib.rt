@@ -4,15 +4,16 @@
 mod kind;
 mod node;
 
-
 mod operate;
 mod scope;
+mod seen;
+mod size;
 mod told;
 mod worth;
 
-pub use kind::Kind;
-pub use node::{Fit, Node, Prefix, top};
+pub use kind::{Kind, has_value, is_other, known_first};
 
-
-
+pub use scope::Scope;
+pub use seen::{Seen, expr, is_named, operand};
+pub use size::{Bound, bound_of, is_within, note_size, size_place};
 pub use worth::{Cap, Worth};
