@@ -56,7 +56,6 @@ prefix_told Prefix.Not a = refl
 pub prefix_kept : (op : Prefix) (a : worth.Worth) → shown (of_prefix op (seen (shown a))) ≡ shown (of_prefix op a)
 prefix_kept op a = rw (seen_shown a) (prefix_told op a)
 
-
 pub either_kept : (a b : worth.Worth) → shown (either (seen (shown a)) (seen (shown b))) ≡ shown (either a b)
 either_kept a b = ap (λ x. shown (either x (seen (shown b)))) (seen_shown a) ∙ ap (λ y. shown (either (as_told a) y)) (seen_shown b) ∙ (let h : min 128 (max (min 128 a.width) (min 128 b.width)) ≡ min 128 (max a.width b.width) = omega arith in ap (λ n. let w : Worth = record (shown (either a b)) { width = n } in w) h)
 

@@ -212,12 +212,12 @@ seen_joined s op f g at k w x y v t u a b places ix iy of tt_is ut_is own more t
     let two : List ℕ = operand_places s (takes op) g in
     let three : List ℕ = when (is_shift op && not (is_amount (worth s g).cap)) (start g) in
     let e1 : a ≡ noted y.kinds one =
-        own ∙ ap (λ z. noted y.kinds (when (is_other (seen_kind x.worth.kind) z) x.start)) (ap seen_kind tt_is ∙ kind_forth (takes op)) ∙ ap (noted y.kinds) (operand s f k w x (takes op) ix) in
+    own ∙ ap (λ z. noted y.kinds (when (is_other (seen_kind x.worth.kind) z) x.start)) (ap seen_kind tt_is ∙ kind_forth (takes op)) ∙ ap (noted y.kinds) (operand s f k w x (takes op) ix) in
     let e2 : b ≡ noted a two =
-        more ∙ ap (λ z. noted a (when (is_other (seen_kind y.worth.kind) z) y.start)) (ap seen_kind ut_is ∙ kind_forth (takes op)) ∙ ap (noted a) (operand s g x.kinds x.widths y (takes op) iy) in
+    more ∙ ap (λ z. noted a (when (is_other (seen_kind y.worth.kind) z) y.start)) (ap seen_kind ut_is ∙ kind_forth (takes op)) ∙ ap (noted a) (operand s g x.kinds x.widths y (takes op) iy) in
     let e3 : places ≡ noted b three =
-        third ∙ ap (λ z. noted b (when (is_shift op && not (is_amount z)) y.start)) (ap (λ (z : Worth). seen_cap z.cap) iy.worth ∙ cap_forth (worth s g).cap)
-        ∙ ap (λ z. noted b (when (is_shift op && not (is_amount (worth s g).cap)) z)) iy.start in
+    third ∙ ap (λ z. noted b (when (is_shift op && not (is_amount z)) y.start)) (ap (λ (z : Worth). seen_cap z.cap) iy.worth ∙ cap_forth (worth s g).cap)
+    ∙ ap (λ z. noted b (when (is_shift op && not (is_amount (worth s g).cap)) z)) iy.start in
     over s (formula.Binary op f at g) (inside f ++ inside g) x.start v k w y.kinds y.widths places refl
     (pair s (node_places s) f g k x.kinds y.kinds ix.kinds iy.kinds) (pair s (node_widths s) f g w x.widths y.widths ix.widths iy.widths) refl ix.start
     (of ∙ ap (λ z. shown (of_binary op (seen z) (seen y.worth))) ix.worth ∙ ap (λ z. shown (of_binary op (seen (shown (worth s f))) (seen z))) iy.worth ∙ binary_kept op (worth s f) (worth s g))
@@ -233,7 +233,7 @@ seen_choice s f g h at t e end k w c x y v a places ic ix iy of own more =
     let two : List ℕ = operand_places s (worth s g).kind h in
     let e1 : a ≡ noted y.kinds one = own ∙ ap (noted y.kinds) (operand s f k w c Truth ic) in
     let e2 : places ≡ noted a two =
-        more ∙ ap (λ z. noted a (when (is_other (seen_kind y.worth.kind) z) y.start)) (kind_of s g c.kinds c.widths x ix) ∙ ap (noted a) (operand s h x.kinds x.widths y (worth s g).kind iy) in
+    more ∙ ap (λ z. noted a (when (is_other (seen_kind y.worth.kind) z) y.start)) (kind_of s g c.kinds c.widths x ix) ∙ ap (noted a) (operand s h x.kinds x.widths y (worth s g).kind iy) in
     over s (formula.Choose at f t g e h end) (inside f ++ inside g ++ inside h) at v k w y.kinds y.widths places refl
     (triple s (node_places s) f g h k c.kinds x.kinds y.kinds ic.kinds ix.kinds iy.kinds) (triple s (node_widths s) f g h w c.widths x.widths y.widths ic.widths ix.widths iy.widths) refl refl
     (of ∙ ap (λ z. shown (sides (seen z) (seen y.worth))) ix.worth ∙ ap (λ z. shown (sides (seen (shown (worth s g))) (seen z))) iy.worth ∙ sides_kept (worth s g) (worth s h))

@@ -3,7 +3,6 @@
 
 mod kind;
 mod node;
-
 mod operate;
 mod scope;
 mod seen;
@@ -12,7 +11,6 @@ mod told;
 mod worth;
 
 pub use kind::{Kind, has_value, is_other, known_first};
-
 pub use scope::Scope;
 pub use seen::{Seen, expr, is_named, operand};
 pub use size::{Bound, bound_of, is_within, note_size, size_place};

@@ -76,7 +76,7 @@ impl<'a> Scope<'a> {
     }
 
     /// What the name is worth as an expression. It takes no memory.
-    
+
     pub fn name(&self, name: &Text) -> Worth
         ensures { result ≡ shown (of_name (around self.now) name.now) }
     {
