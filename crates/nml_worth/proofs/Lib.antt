@@ -3,3 +3,5 @@ pub mod Digits
 pub mod Kept
 pub mod Scopes
 pub mod Nodes
+pub mod Passes
+pub mod Alternatives

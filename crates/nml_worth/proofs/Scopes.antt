@@ -89,7 +89,7 @@ in_behind q ps p (k, low, is) = (suc k, omega (arith, low), is)
 pub in_front : (q : Par) (ps : List Par) → Contains (q ∷ ps) q
 in_front q ps = (0, omega arith, refl)
 
-dropped_at : {A : Type 0} (xs : List A) (j : ℕ) (e : A) → j < length xs → drop j xs ≡ slice_index_or xs j e ∷ drop (suc j) xs
+pub dropped_at : {A : Type 0} (xs : List A) (j : ℕ) (e : A) → j < length xs → drop j xs ≡ slice_index_or xs j e ∷ drop (suc j) xs
 dropped_at [] j e low = absurd (omega (arith, low))
 dropped_at (x ∷ xs) zero e low = refl
 dropped_at (x ∷ xs) (suc j) e low = dropped_at xs j e (omega (arith, low))

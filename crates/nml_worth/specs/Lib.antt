@@ -4,3 +4,4 @@ pub mod Known
 pub mod Around
 pub mod Bound
 pub mod Seen
+pub mod Rules

@@ -4,6 +4,7 @@
 mod kind;
 mod node;
 mod operate;
+mod rules;
 mod scope;
 mod seen;
 mod size;
@@ -11,6 +12,7 @@ mod told;
 mod worth;
 
 pub use kind::{Kind, has_value, is_other, known_first};
+pub use rules::rule_worths;
 pub use scope::Scope;
 pub use seen::{Seen, expr, is_named, operand};
 pub use size::{Bound, bound_of, is_within, note_size, size_place};

@@ -1,6 +1,6 @@
 //! What is known of an expression from the declarations alone.
 
-ghost use Rattle.std.specs.Prelude.{◌≡◌, ◌≤◌, max, min};
+ghost use Rattle.std.specs.Prelude.{◌≡◌, ◌≤◌, [], max, min};
 ghost use Rattle.nml_tree.specs.Worth as spec;
 ghost use Rattle.nml_worth.specs.Shown.{shown, seen, seen_cap, shown_cap, seen_kind};
 
@@ -69,6 +69,19 @@ pub fn unknown() -> Worth
     ensures { result ≡ shown spec.unknown }
 {
     worth_of(Kind::Unknown, 0, Cap::Untold)
+}
+
+/// What may be anything that can be assigned: any of no values.
+pub fn any_place() -> Worth
+    ensures { result ≡ shown (spec.greatest []) }
+{
+    Worth {
+        kind: Kind::Unknown,
+        width: 0,
+        cap: Cap::Untold,
+        is_place: true,
+        is_out: false,
+    }
 }
 
 /// What has no value.
