@@ -1,0 +1,7 @@
+pub mod Shows
+pub mod Digits
+pub mod Kept
+pub mod Scopes
+pub mod Nodes
+pub mod Passes
+pub mod Alternatives

@@ -1,0 +1,7 @@
+pub mod Shown
+pub mod Node
+pub mod Known
+pub mod Around
+pub mod Bound
+pub mod Seen
+pub mod Rules
