@@ -1,8 +1,7 @@
 -- What is told of an expression, from what is told of those in it.
-use Rattle.std.proofs.Common.{◌≡◌, ℕ, Bool, true, false, List, [], ◌∷◌, ◌++◌, Option, Some, None, refl, ap, sym, ◌∙◌, subst}
+use Rattle.std.proofs.Common.{◌≡◌, ℕ, Bool, true, false, List, [], ◌∷◌, ◌++◌, Option, Some, None, refl, ap, sym, ◌∙◌}
 use Rattle.std.specs.Prelude.{nat_lt, ◌&&◌, not, flat_map, option_map, pos}
 use Rattle.std.proofs.lemmas.Grind.{flat_map-append}
-use Rattle.std.proofs.lemmas.List.{append-nil}
 use Rattle.nml_tree.specs.declared.names.Name.{Name}
 use Rattle.nml_tree.specs.declared.names.Number as numbers
 use Rattle.nml_tree.specs.declared.operator.Bin.{Bin}
@@ -11,9 +10,9 @@ use Rattle.nml_tree.specs.Formula as formula
 use Rattle.nml_tree.specs.Formula.{Formula, Prefix, Fit}
 use Rattle.nml_tree.specs.Inside.{start, inside}
 use Rattle.nml_tree.specs.Places.{when, unless}
-use Rattle.nml_tree.specs.Table.{Declared, declared, size_number, size_or_none}
+use Rattle.nml_tree.specs.Table.{Declared, declared, size_number}
 use Rattle.nml_tree.specs.TypeFault.{node_places, places_inside, operand_places, has_value, is_named_rightly, is_read_rightly, is_shift, is_amount, takes, prefix_takes, is_within, size_places, has_bounds, size_place}
-use Rattle.nml_tree.specs.WidthFault.{node_widths, index_places, is_below}
+use Rattle.nml_tree.specs.WidthFault.{node_widths, index_places}
 use Rattle.nml_tree.specs.Worth as worth
 use Rattle.nml_tree.specs.Worth.{Scope, Kind, Number, Truth, worth, of_name, is_other, of_number, of_binary, of_prefix, of_fit, of_type, as_number, of_bits, sides}
 use Rattle.nml_names.specs.Note.{noted}
