@@ -1,6 +1,6 @@
 -- No more than 128 bits of a width are told, and that is enough for all that is made of it.
 use Rattle.std.proofs.Common.{◌≡◌, ℕ, suc, ◌+◌, ◌≤◌, Bool, true, false, Option, Some, None, refl, ap, sym, ◌∙◌, arith}
-use Rattle.std.specs.Prelude.{min, max, nat_le, nat_lt, ◌&&◌, ◌||◌, not, if◌then◌else◌, cond, option_map}
+use Rattle.std.specs.Prelude.{min, max, nat_le, nat_lt, ◌&&◌, if◌then◌else◌, option_map}
 use Rattle.std.proofs.lemmas.Bool.{leb-true, leb-false}
 use Rattle.nk_base.specs.declared.number.Ty.{Ty}
 use Rattle.nk_base.specs.declared.number.Ty.TheVariants as ty
@@ -14,7 +14,7 @@ use Rattle.nml_tree.specs.TypeFault.{may_have_index}
 use Rattle.nml_known.specs.Known.{told, known}
 use Rattle.nml_worth.specs.Known.{of_known, known_index, names_rule}
 use Rattle.nml_worth.specs.declared.worth.Worth.{Worth}
-use Rattle.nml_worth.specs.Shown.{shown, seen, shown_kind, seen_kind, shown_cap, seen_cap}
+use Rattle.nml_worth.specs.Shown.{shown, seen}
 use Rattle.nml_worth.proofs.Shows.{kind_forth, cap_forth}
 
 -- all but the width

@@ -1,8 +1,7 @@
 -- What is told of an expression, from what is told of those in it.
-use Rattle.std.proofs.Common.{◌≡◌, ℕ, Bool, true, false, List, [], ◌∷◌, ◌++◌, Option, Some, None, refl, ap, sym, ◌∙◌, subst}
+use Rattle.std.proofs.Common.{◌≡◌, ℕ, Bool, true, false, List, [], ◌∷◌, ◌++◌, Option, Some, None, refl, ap, sym, ◌∙◌}
 use Rattle.std.specs.Prelude.{nat_lt, ◌&&◌, not, flat_map, option_map, pos}
 use Rattle.std.proofs.lemmas.Grind.{flat_map-append}
-use Rattle.std.proofs.lemmas.List.{append-nil}
 use Rattle.nml_tree.specs.declared.names.Name.{Name}
 use Rattle.nml_tree.specs.declared.names.Number as numbers
 use Rattle.nml_tree.specs.declared.operator.Bin.{Bin}
@@ -11,9 +10,9 @@ use Rattle.nml_tree.specs.Formula as formula
 use Rattle.nml_tree.specs.Formula.{Formula, Prefix, Fit}
 use Rattle.nml_tree.specs.Inside.{start, inside}
 use Rattle.nml_tree.specs.Places.{when, unless}
-use Rattle.nml_tree.specs.Table.{Declared, declared, size_number, size_or_none}
-use Rattle.nml_tree.specs.TypeFault.{node_places, places_inside, operand_places, has_value, is_read_rightly, is_shift, is_amount, takes, prefix_takes, is_within, size_places, has_bounds, size_place}
-use Rattle.nml_tree.specs.WidthFault.{node_widths, index_places, is_below}
+use Rattle.nml_tree.specs.Table.{Declared, declared, size_number}
+use Rattle.nml_tree.specs.TypeFault.{node_places, places_inside, operand_places, has_value, is_named_rightly, is_read_rightly, is_shift, is_amount, takes, prefix_takes, is_within, size_places, has_bounds, size_place}
+use Rattle.nml_tree.specs.WidthFault.{node_widths, index_places}
 use Rattle.nml_tree.specs.Worth as worth
 use Rattle.nml_tree.specs.Worth.{Scope, Kind, Number, Truth, worth, of_name, is_other, of_number, of_binary, of_prefix, of_fit, of_type, as_number, of_bits, sides}
 use Rattle.nml_names.specs.Note.{noted}
@@ -238,3 +237,11 @@ seen_choice s f g h at t e end k w c x y v a places ic ix iy of own more =
     (triple s (node_places s) f g h k c.kinds x.kinds y.kinds ic.kinds ix.kinds iy.kinds) (triple s (node_widths s) f g h w c.widths x.widths y.widths ic.widths ix.widths iy.widths) refl refl
     (of ∙ ap (λ z. shown (sides (seen z) (seen y.worth))) ix.worth ∙ ap (λ z. shown (sides (seen (shown (worth s g))) (seen z))) iy.worth ∙ sides_kept (worth s g) (worth s h))
     (e2 ∙ ap (λ z. noted z two) e1 ∙ sym (noted_append y.kinds one two))
+
+-- ---- for checks of what stands round expressions
+
+pub named_is : (s : Scope) (n : Name) (b : Bool) (k : Option Known) (w : Worth) → IsNamed s n k w → (known_index b k && has_value (seen_kind w.kind)) ≡ is_named_rightly s b n
+named_is s n b k w is = rw (is.worth_is, is.known_is, kind_forth (of_name s n.text).kind, index_told b (declared s.table n.text)) refl
+
+pub operand_is : (s : Scope) (f : Formula) (x : Seen) (wanted : Kind) → x.worth ≡ shown (worth s f) → x.start ≡ start f → when (is_other (seen_kind x.worth.kind) wanted) x.start ≡ operand_places s wanted f
+operand_is s f x wanted of begins = rw (of, begins, kind_forth (worth s f).kind) refl

@@ -1,31 +1,26 @@
 -- What rules are worth, found in an order in which each stands behind those that it names.
-use Rattle.std.proofs.Common.{◌≡◌, ℕ, zero, suc, ◌+◌, ◌<◌, ◌≤◌, Bool, true, false, List, [], ◌∷◌, ◌++◌, map, length, slice_get, Option, Some, None, refl, ap, sym, subst, ◌∙◌, arith, Contains, option_map, ◌⊎◌, inl, inr, set, get_or}
+use Rattle.std.proofs.Common.{◌≡◌, ℕ, zero, suc, ◌+◌, ◌<◌, ◌≤◌, true, List, [], ◌∷◌, map, length, slice_get, Option, Some, None, refl, ap, sym, subst, ◌∙◌, arith, option_map, ◌⊎◌, inl, inr, set, get_or}
 use Rattle.std.specs.Prelude.{slice_index_or, unwrap_or, option_and_then}
 use Rattle.std.proofs.lemmas.Option.{slice_get_within, slice_get_read}
 use Rattle.nk_base.specs.declared.number.Ty.{Ty}
 use Rattle.nml_tree.specs.declared.tree.TypeExpr.{TypeExpr}
 use Rattle.nml_tree.specs.declared.tree.TypeExpr.TheVariants as type_expr
-use Rattle.nml_tree.specs.declared.tree.Par.{Par}
 use Rattle.nml_tree.specs.declared.tree.Item.{Item}
 use Rattle.nml_tree.specs.declared.tree.Item.TheVariants as item
 use Rattle.nml_tree.specs.declared.tree.Desc.{Desc}
-use Rattle.nml_tree.specs.Formula.{formula}
 use Rattle.nml_tree.specs.Reach.{CycleFault}
 use Rattle.nml_tree.specs.Refused.{IsFreeBelow, By_cycle}
 use Rattle.nml_tree.specs.NameFault as faults
 use Rattle.nml_tree.specs.Table as tables
 use Rattle.nml_tree.specs.Table.{Text, Declared, declared, table, parameter_of, pars_of, rule_of, is_mode_word}
-use Rattle.nml_tree.specs.Worth as worth
-use Rattle.nml_tree.specs.Worth.{is_rule, rule_worth, of_rule, of_mode, greatest}
+use Rattle.nml_tree.specs.Worth.{is_rule, rule_worth, of_rule}
 use Rattle.nml_tree.proofs.RuleWorth.{rule_worth_is}
-use Rattle.nml_names.specs.declared.names.Declaration.{Declaration}
-use Rattle.nml_names.specs.Below.{Names, below, graph, first_number, rule_number, part}
-use Rattle.nml_names.specs.Graphs.{IsOrder, Edge, Among, StandsBefore, row}
+use Rattle.nml_names.specs.Below.{below, graph, first_number, rule_number, part}
+use Rattle.nml_names.specs.Graphs.{IsOrder, Edge, Among, row}
 use Rattle.nml_names.specs.Naming.{declaration}
-use Rattle.nml_names.proofs.RuleNames.{first_item, rule_part, only_rule, declared_rule, only_back, Stands, numbered, known_stands, alternatives_have, parts_have, IsPartOf, is_part_of, some_same}
-use Rattle.nml_known.specs.Known.{item_number}
+use Rattle.nml_names.proofs.RuleNames.{first_item, rule_part, only_rule, declared_rule, Stands, numbered, alternatives_have, parts_have, IsPartOf, is_part_of, some_same}
 use Rattle.nml_worth.specs.declared.worth.Worth.{Worth}
-use Rattle.nml_worth.specs.Around.{Place, around, number_or_none, IsKnown, PartKnown, PartsIn, PartsKnown, AreWorths, of_item, BelowKnown}
+use Rattle.nml_worth.specs.Around.{Place, number_or_none, IsKnown, PartsKnown, AreWorths, of_item, BelowKnown}
 use Rattle.nml_worth.specs.Shown.{shown}
 
 -- what rules are worth is kept by the number of the item

@@ -1,6 +1,6 @@
 -- What stands round the expressions of a rule.
 use Rattle.std.proofs.Common.{◌≡◌, ℕ, zero, suc, ◌≤◌, ◌-◌, Bool, true, false, cond, List, [], ◌∷◌, map, Option, Some, None, refl, ap, sym, subst, ◌∙◌, option_map, Contains, arith}
-use Rattle.std.specs.Prelude.{option_and_then, drop, length, slice_index_or, slice_get, unwrap_or, ◌<◌}
+use Rattle.std.specs.Prelude.{option_and_then, drop, length, slice_index_or, ◌<◌}
 use Rattle.std.specs.Map.{lookup}
 use Rattle.nk_base.specs.Text.{text_eq}
 use Rattle.nml_tree.specs.declared.tree.Par.{Par}
@@ -9,11 +9,10 @@ use Rattle.nml_tree.specs.declared.tree.Desc.{Desc}
 use Rattle.nml_tree.specs.Directives as directives
 use Rattle.nml_tree.specs.Table as table
 use Rattle.nml_tree.specs.Table.{Text, Declared, declared, parameter_of, pars_of}
-use Rattle.nml_tree.specs.Worth as worth
-use Rattle.nml_tree.specs.Worth.{Scope, of_parameter, of_entry, of_name, of_declared, of_type, rule_worth}
-use Rattle.nml_tree.proofs.SameText.{same_text, equal_text, turned}
+use Rattle.nml_tree.specs.Worth.{of_parameter, of_entry, of_name}
+use Rattle.nml_tree.proofs.SameText.{turned}
 use Rattle.nml_known.specs.declared.known.Parameter.{Parameter}
-use Rattle.nml_known.specs.Known.{told, known, parameter_told}
+use Rattle.nml_known.specs.Known.{known, parameter_told}
 use Rattle.nml_worth.specs.declared.scope.Given.{Given}
 use Rattle.nml_worth.specs.declared.worth.Worth.{Worth}
 use Rattle.nml_worth.specs.Known.{of_known}

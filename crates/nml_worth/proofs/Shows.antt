@@ -1,7 +1,5 @@
 -- What is told of kinds, caps and numbers.
-use Rattle.std.proofs.Common.{◌≡◌, ℕ, zero, suc, ◌+◌, ◌*◌, ◌<◌, ◌≤◌, ◌^◌, ◌/◌, Bool, true, false, refl, ap, sym, ◌∙◌, arith}
-use Rattle.std.specs.Prelude.{◌==◌, cond, if◌then◌else◌, min}
-use Rattle.std.specs.Int.Count.{count_leading_zeros, leading_unique}
+use Rattle.std.proofs.Common.{◌≡◌, refl}
 use Rattle.nml_tree.specs.Worth as worth
 use Rattle.nml_tree.specs.Worth.{binary_digits}
 use Rattle.nml_worth.specs.declared.kind.Kind.{Kind}

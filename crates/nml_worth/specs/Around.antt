@@ -1,5 +1,5 @@
 -- What stands round the expressions of a rule, and what the rules of a description are worth, by the numbers of their items.
-use Rattle.std.specs.Prelude.{ℕ, ◌≡◌, Bool, true, List, ◌∷◌, map, Option, Some, None, option_map, unwrap_or, slice_get, Contains}
+use Rattle.std.specs.Prelude.{ℕ, ◌≡◌, true, List, ◌∷◌, map, Option, Some, None, option_map, unwrap_or, slice_get, Contains}
 use Rattle.std.specs.Map.{lookup}
 use Rattle.nk_base.specs.Text.{text_eq}
 use Rattle.nml_tree.specs.declared.tree.Par.{Par}

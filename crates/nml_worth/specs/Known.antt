@@ -1,6 +1,5 @@
 -- What is worth what a name is declared as, from what is known of that.
-use Rattle.std.specs.Prelude.{◌==◌, nat_le, Bool, true, false, not, Option, Some, None}
-use Rattle.nk_base.specs.declared.number.Ty.{Ty}
+use Rattle.std.specs.Prelude.{◌==◌, nat_le, Bool, true, false, not, Option, Some}
 use Rattle.nml_tree.specs.Worth.{Worth, of_number, of_type, nothing}
 use Rattle.nml_known.specs.declared.known.Known.{Known}
 use Rattle.nml_known.specs.declared.known.Known.TheVariants as known

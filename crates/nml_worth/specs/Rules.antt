@@ -1,5 +1,5 @@
--- What the alternatives of a rule are worth together.
-use Rattle.std.specs.Prelude.{Bool, true, List, [], ◌∷◌, map, filter, Option, Some, None, option_map, if◌then◌else◌, ◌≡◌}
+-- For private contracts: what the alternatives of a rule are worth together.
+use Rattle.std.specs.Prelude.{true, List, [], ◌∷◌, map, filter, Option, Some, None, if◌then◌else◌, ◌≡◌}
 use Rattle.nml_tree.specs.declared.tree.Desc.{Desc}
 use Rattle.nml_tree.specs.Table.{Text, declared, table}
 use Rattle.nml_tree.specs.Worth as worth

@@ -1,4 +1,4 @@
--- What is told of an expression.
+-- For private contracts: what is told of an expression.
 use Rattle.std.specs.Prelude.{ℕ, ◌≡◌, List, [], flat_map, Option, Some, option_map}
 use Rattle.nml_tree.specs.declared.names.Name.{Name}
 use Rattle.nml_tree.specs.Formula.{Formula}

@@ -1,5 +1,5 @@
 -- What is told of the worth of an expression: all of it, but of its width no more than 128.
-use Rattle.std.specs.Prelude.{ℕ, min}
+use Rattle.std.specs.Prelude.{min}
 use Rattle.nml_tree.specs.Worth as worth
 use Rattle.nml_worth.specs.declared.kind.Kind.{Kind}
 use Rattle.nml_worth.specs.declared.kind.Kind.TheVariants as kind

@@ -14,6 +14,6 @@ mod worth;
 pub use kind::{Kind, has_value, is_other, known_first};
 pub use rules::rule_worths;
 pub use scope::Scope;
-pub use seen::{Seen, expr, is_named, operand};
+pub use seen::{Seen, expr, is_named, is_named_rightly, operand};
 pub use size::{Bound, bound_of, is_within, note_size, size_place};
 pub use worth::{Cap, Worth};

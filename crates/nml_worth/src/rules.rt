@@ -129,7 +129,7 @@ fn worth_of_item(
 }
 
 /// What each rule is worth, by the number of its item, in a description in which no rule reaches itself; the order has each item behind
-/// those that it names. The one error is want of memory.
+/// those that it names. What a rule is worth is this project's own rule. The one error is want of memory.
 pub fn rule_worths(alloc: Global, names: &Names<'_>, order: &[usize]) -> Result<Vec<Worth>, Memory>
     requires order { IsOrder (graph names.now.items) order.now }
     requires free { IsFreeBelow 6 names.now }

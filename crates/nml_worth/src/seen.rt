@@ -34,7 +34,7 @@ use crate::told::{may_have_index, of_number};
 use crate::worth::{Cap, Worth, sides, truth};
 use nml_known::Known;
 use nml_names::note;
-use nml_tree::{Bin, Expr};
+use nml_tree::{Bin, Expr, Name};
 
 /// What is told of an expression. The form is this project's own.
 #[derive(Clone, Copy)]
@@ -61,6 +61,16 @@ pub fn is_named(indexed: bool, known: Option<Known>, worth: Worth) -> bool
     ensures { result ≡ (known_index indexed known && fault.has_value (seen_kind worth.kind)) }
 {
     may_have_index(indexed, known) && has_value(worth.kind)
+}
+
+/// Whether the name is that of a value, with an index where it has one. It takes no memory.
+///
+/// A storage of more than one cell is indexed, one of one cell isn't, and nothing else is. The rule is this project's own.
+pub fn is_named_rightly(s: &Scope<'_>, indexed: bool, n: &Name) -> bool
+    ensures { result ≡ fault.is_named_rightly (around s.now) indexed n.now }
+{
+    let known = s.names().declared(&n.text);
+    is_named(indexed, known, s.name(&n.text))
 }
 
 /// Notes the name where it isn't that of a value that is read. It takes no memory.
