@@ -24,7 +24,7 @@ use Rattle.nml_edges.specs.declared.glyph.Glyph.{Glyph}
 use Rattle.nml_edges.specs.declared.glyph.Glyph.TheVariants as glyph
 use Rattle.nml_edges.specs.declared.glyph.Last.{Last}
 use Rattle.nml_edges.specs.declared.glyph.Last.TheVariants as last
-use Rattle.nml_edges.specs.Glyph.{glyph_of, glyphs, arg_glyphs, behind_blank, behind_seam, after, number_touches, touches, end, touching}
+use Rattle.nml_edges.specs.Glyph.{glyph_of, glyphs, arg_glyphs, behind_blank, behind_seam, last_behind, number_touches, touches, end, touching}
 
 -- a relation of lists that letters and lists put together keep
 pub record IsKept {A B : Type 0} (R : List A → List B → Type 0) (f : ℕ → A) (g : ℕ → B) : Type 0 where
@@ -315,7 +315,7 @@ plain_blank last.DigitSeam = refl
 plain_blank last.Minus = refl
 plain_blank last.MinusSeam = refl
 
-letter_behind : (s : Last) (d m b : Bool) → sight_by d m false ≡ plain (after s (kind_by d m b))
+letter_behind : (s : Last) (d m b : Bool) → sight_by d m false ≡ plain (last_behind s (kind_by d m b))
 letter_behind s true m b = refl
 letter_behind s false true b = refl
 letter_behind s false false true = sym (plain_blank s)
@@ -325,7 +325,7 @@ touching_is : (fs : List Flat) (l : Left) (s : Last) → sight l ≡ plain s →
 touching_is [] l s h = refl
 touching_is (edge.Letter c ∷ fs) l s h =
     let first : touch l c ≡ touches s (glyph_of c) = touch_is l c ∙ ap (λ z. touches z (glyph_of c)) h ∙ sym (plain_touches s (glyph_of c)) in
-    let more = touching_is fs (edge.AfterLetter c false) (after s (glyph_of c)) (letter_behind s (is_ascii_digit c) (c == 45) (is_blank c)) in
+    let more = touching_is fs (edge.AfterLetter c false) (last_behind s (glyph_of c)) (letter_behind s (is_ascii_digit c) (c == 45) (is_blank c)) in
     rw (first, more) refl
 touching_is (edge.Number n ∷ fs) l s h =
     let first : touch_number l ≡ number_touches s = number_is l ∙ ap number_touches h ∙ sym (plain_number s) in
@@ -514,7 +514,7 @@ abbrev is_nothing : Last → Bool
 is_nothing last.Nothing = true
 is_nothing _ = false
 
-after_nothing : (l : Last) (g : Glyph) → is_nothing (after l g) ≡ (is_nothing l && is_quiet g)
+after_nothing : (l : Last) (g : Glyph) → is_nothing (last_behind l g) ≡ (is_nothing l && is_quiet g)
 after_nothing last.Nothing glyph.Digit = refl
 after_nothing last.Nothing glyph.Minus = refl
 after_nothing last.Nothing glyph.Blank = refl
@@ -560,7 +560,7 @@ after_nothing last.MinusSeam glyph.Seam = refl
 
 end_nothing : (l : Last) (gs : List Glyph) → is_nothing (end l gs) ≡ (is_nothing l && quiet gs)
 end_nothing l [] = sym (and_true (is_nothing l))
-end_nothing l (g ∷ gs) = end_nothing (after l g) gs ∙ ap (λ z. z && quiet gs) (after_nothing l g) ∙ sym (and_assoc (is_nothing l) (is_quiet g) (quiet gs))
+end_nothing l (g ∷ gs) = end_nothing (last_behind l g) gs ∙ ap (λ z. z && quiet gs) (after_nothing l g) ∙ sym (and_assoc (is_nothing l) (is_quiet g) (quiet gs))
 
 nothing_is : (l : Last) → is_nothing l ≡ true → l ≡ last.Nothing
 nothing_is last.Nothing h = refl

@@ -5,7 +5,7 @@ use Rattle.nml_edges.specs.declared.glyph.Last.{Last}
 use Rattle.nml_edges.specs.declared.glyph.Last.TheVariants as last
 use Rattle.nml_edges.specs.declared.summary.Way.{Way}
 use Rattle.nml_edges.specs.declared.summary.Summary.{Summary}
-use Rattle.nml_edges.specs.Glyph.{after, touches, end, touching}
+use Rattle.nml_edges.specs.Glyph.{last_behind, touches, end, touching}
 use Rattle.nml_edges.specs.Summary.{nowhere, only, either, where_may, through, none, still, step, one, followed, both, way, says, Does, IsSummary}
 
 -- truth
@@ -282,7 +282,7 @@ only_back last.MinusSeam last.Minus t h = absurd cc
 -- texts that are put together
 pub end_append : (l : Last) (gs hs : List Glyph) → end l (gs ++ hs) ≡ end (end l gs) hs
 end_append l [] hs = refl
-end_append l (g ∷ gs) hs = end_append (after l g) gs hs
+end_append l (g ∷ gs) hs = end_append (last_behind l g) gs hs
 
 or_assoc : (a b c : Bool) → (a || (b || c)) ≡ ((a || b) || c)
 or_assoc true b c = refl
@@ -290,7 +290,7 @@ or_assoc false b c = refl
 
 pub touching_append : (l : Last) (gs hs : List Glyph) → touching l (gs ++ hs) ≡ (touching l gs || touching (end l gs) hs)
 touching_append l [] hs = refl
-touching_append l (g ∷ gs) hs = ap (λ b. touches l g || b) (touching_append (after l g) gs hs) ∙ or_assoc (touches l g) (touching (after l g) gs) (touching (end (after l g) gs) hs)
+touching_append l (g ∷ gs) hs = ap (λ b. touches l g || b) (touching_append (last_behind l g) gs hs) ∙ or_assoc (touches l g) (touching (last_behind l g) gs) (touching (end (last_behind l g) gs) hs)
 
 -- one of these and behind it one of those
 pub record Joined (A B : List Glyph → Type 0) (gs : List Glyph) : Type 0 where
@@ -365,14 +365,14 @@ one_is g = record {
 }
   where
     back : (l : Last) (o : Option Last) → says o (step l g) ≡ true → Does o l (g ∷ [])
-    back l None h = or_false (touches l g) ∙ sym (only_touch (after l g) (touches l g)) ∙ h
-    back l (Some e) h = only_back (after l g) e (touches l g) h
+    back l None h = or_false (touches l g) ∙ sym (only_touch (last_behind l g) (touches l g)) ∙ h
+    back l (Some e) h = only_back (last_behind l g) e (touches l g) h
 
     forth : (l : Last) (o : Option Last) (gs : List Glyph) → gs ≡ g ∷ [] → Does o l gs → says o (step l g) ≡ true
-    forth l None gs e d = only_touch (after l g) (touches l g) ∙ sym (or_false (touches l g)) ∙ ap (touching l) (sym e) ∙ d
+    forth l None gs e d = only_touch (last_behind l g) (touches l g) ∙ sym (or_false (touches l g)) ∙ ap (touching l) (sym e) ∙ d
     forth l (Some x) gs e d =
-        let f : after l g ≡ x = ap (end l) (sym e) ∙ d in
-        ap (λ y. says (Some y) (only (after l g) (touches l g))) (sym f) ∙ only_end (after l g) (touches l g)
+        let f : last_behind l g ≡ x = ap (end l) (sym e) ∙ d in
+        ap (λ y. says (Some y) (only (last_behind l g) (touches l g))) (sym f) ∙ only_end (last_behind l g) (touches l g)
 
 pub still_is : IsSummary (λ gs. gs ≡ []) still
 still_is = record {

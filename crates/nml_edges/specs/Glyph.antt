@@ -47,13 +47,13 @@ behind_seam last.Minus = last.MinusSeam
 behind_seam last.MinusSeam = last.MinusSeam
 
 -- what stands last behind one glyph more
-abbrev pub after : Last → Glyph → Last
-after l glyph.Digit = last.Digit
-after l glyph.Minus = last.Minus
-after l glyph.Blank = behind_blank l
-after l glyph.Other = last.Plain
-after l glyph.Number = last.Number
-after l glyph.Seam = behind_seam l
+abbrev pub last_behind : Last → Glyph → Last
+last_behind l glyph.Digit = last.Digit
+last_behind l glyph.Minus = last.Minus
+last_behind l glyph.Blank = behind_blank l
+last_behind l glyph.Other = last.Plain
+last_behind l glyph.Number = last.Number
+last_behind l glyph.Seam = behind_seam l
 
 -- a digit touches a number, and a digit or `-` of another string
 abbrev pub digit_touches : Last → Bool
@@ -97,9 +97,9 @@ touches l glyph.Seam = false
 -- what stands last behind a text
 abbrev pub end : Last → List Glyph → Last
 end l [] = l
-end l (g ∷ gs) = end (after l g) gs
+end l (g ∷ gs) = end (last_behind l g) gs
 
 -- something touches in a text, or it touches what stands before it
 abbrev pub touching : Last → List Glyph → Bool
 touching l [] = false
-touching l (g ∷ gs) = touches l g || touching (after l g) gs
+touching l (g ∷ gs) = touches l g || touching (last_behind l g) gs

@@ -6,7 +6,7 @@ use Rattle.nml_edges.specs.declared.glyph.Last.{Last}
 use Rattle.nml_edges.specs.declared.glyph.Last.TheVariants as last
 use Rattle.nml_edges.specs.declared.summary.Way.{Way}
 use Rattle.nml_edges.specs.declared.summary.Summary.{Summary}
-use Rattle.nml_edges.specs.Glyph.{after, touches, end, touching}
+use Rattle.nml_edges.specs.Glyph.{last_behind, touches, end, touching}
 
 -- there is no text
 abbrev pub nowhere : Way
@@ -64,7 +64,7 @@ still = record {
 
 -- what one glyph does from there
 abbrev pub step : Last → Glyph → Way
-step l g = only (after l g) (touches l g)
+step l g = only (last_behind l g) (touches l g)
 
 -- of one glyph
 abbrev pub one : Glyph → Summary

@@ -78,8 +78,8 @@ fn behind_seam(last: Last) -> Last
 }
 
 /// What stands last behind one more.
-pub fn after(last: Last, g: Glyph) -> Last
-    ensures { result ≡ spec.after last g }
+pub fn last_behind(last: Last, g: Glyph) -> Last
+    ensures { result ≡ spec.last_behind last g }
 {
     match g {
         Glyph::Digit => Last::Digit,

@@ -3,7 +3,7 @@
 ghost use Rattle.std.specs.Prelude.{◌≡◌};
 ghost use Rattle.nml_edges.specs.Summary as spec;
 
-use crate::glyph::{Glyph, Last, after, touches};
+use crate::glyph::{Glyph, Last, last_behind, touches};
 
 /// What may stand last behind some texts, each as the variant of `Last` of that name, and whether something may touch.
 #[derive(Clone, Copy)]
@@ -137,7 +137,7 @@ pub fn still() -> Summary
 fn step(last: Last, g: Glyph) -> Way
     ensures { result ≡ spec.step last g }
 {
-    only(after(last, g), touches(last, g))
+    only(last_behind(last, g), touches(last, g))
 }
 
 /// One glyph.
