@@ -1,4 +1,4 @@
--- What stands behind the first in a list with marks between.
+-- The parts of items, rule by rule, as the code goes through them.
 use Rattle.std.specs.Prelude.{ℕ, ◌+◌, min, List, map}
 use Rattle.nml_tree.specs.declared.tree.Par.{Par}
 

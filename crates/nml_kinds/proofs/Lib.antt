@@ -1,0 +1,3 @@
+pub mod Storages
+pub mod Orders
+pub mod Blocks
