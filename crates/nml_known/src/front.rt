@@ -26,8 +26,12 @@ impl<'a> Model for Front<'a> {
     ghost use Rattle.nml_known.specs.Known.{all_known};
     ghost use Rattle.nml_names.specs.Naming.{AreDeclared};
     ghost use Rattle.nml_tree.specs.declared.tree.Item.{Item};
+    ghost use Rattle.nml_tree.specs.contracts.tree.Item as i;
+    ghost use Rattle.std.specs.Coded.{codes};
 
     ghost Value = { List Item };
+
+    ghost coded = { Prim.hlevel (codes, i.the_row.coded) };
 
     ghost view = { λ f. take (length f.known.now) f.items.now };
 

@@ -36,8 +36,12 @@ impl<'a> Model for Names<'a> {
     ghost use Rattle.nml_known.specs.Known.{all_known};
     ghost use Rattle.nml_names.specs.Naming.{AreDeclared};
     ghost use Rattle.nml_tree.specs.declared.tree.Desc.{Desc};
+    ghost use Rattle.nml_tree.specs.contracts.tree.Desc as d;
+    ghost use Rattle.std.specs.Coded.{codes};
 
     ghost Value = { Desc };
+
+    ghost coded = { Prim.hlevel (codes, d.the_row.coded) };
 
     ghost view = { λ n. n.desc.now };
 
@@ -78,7 +82,7 @@ impl<'a> Names<'a> {
 
     /// The items, with what each declares.
     fn front(&self) -> Front<'_>
-        ensures { result.now ≡ self.now.items }
+        ensures { result ≡ self.now.items }
     {
         Front {
             items: self.desc.items.as_slice(),
