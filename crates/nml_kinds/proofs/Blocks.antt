@@ -10,11 +10,11 @@ use Rattle.nml_tree.specs.TypeFault.{node_places, places_inside, operand_places,
 use Rattle.nml_tree.specs.WidthFault.{node_widths, assigned}
 use Rattle.nml_tree.specs.Directives.{is_part, parameter}
 use Rattle.nml_tree.specs.Worth.{Kind, Number, Truth, Scope, worth, of_name, is_other}
-use Rattle.nml_kinds.specs.Statements.{operand_kinds, index_kinds, assigned_kinds, block_kinds, index_widths, widths_inside, block_widths}
+use Rattle.nml_kinds.specs.Statements.{operand_kinds, index_kinds, assigned_kinds, name_kinds, block_kinds, assigned_widths, index_widths, widths_inside, block_widths}
 use Rattle.nml_kinds.proofs.Orders.{earlier_assoc, earlier_comm, earlier_swap, earlier_pairs, least_append}
 
 -- the places of several expressions, in parts
-least_flat : (f : Formula → List ℕ) (xs ys : List Formula) → least_of (flat_map f (xs ++ ys)) ≡ earlier (least_of (flat_map f xs)) (least_of (flat_map f ys))
+pub least_flat : (f : Formula → List ℕ) (xs ys : List Formula) → least_of (flat_map f (xs ++ ys)) ≡ earlier (least_of (flat_map f xs)) (least_of (flat_map f ys))
 least_flat f [] ys = refl
 least_flat f (x ∷ xs) ys =
     least_append (f x) (flat_map f (xs ++ ys)) ∙ ap (earlier (least_of (f x))) (least_flat f xs ys)
@@ -32,12 +32,12 @@ index_is : (s : Scope) (i : Index) → least_of (index_kinds s i) ≡ earlier (l
 index_is s None = refl
 index_is s (Some (p, i, q)) = operand_is s Number i
 
-five : (a b c d e : Option ℕ) → earlier (earlier (earlier (earlier a b) c) d) e ≡ earlier (earlier (earlier d e) b) (earlier a c)
-five a b c d e =
-    ap (λ x. earlier x e) (ap (λ x. earlier x d) (earlier_swap a b c) ∙ earlier_assoc (earlier a c) b d)
-    ∙ earlier_assoc (earlier a c) (earlier b d) e
-    ∙ ap (earlier (earlier a c)) (earlier_assoc b d e ∙ earlier_comm b (earlier d e))
-    ∙ earlier_comm (earlier a c) (earlier (earlier d e) b)
+four : (a b c d : Option ℕ) → earlier (earlier (earlier a b) c) d ≡ earlier (earlier d b) (earlier a c)
+four a b c d =
+    ap (λ x. earlier x d) (earlier_swap a b c)
+    ∙ earlier_assoc (earlier a c) b d
+    ∙ earlier_comm (earlier a c) (earlier b d)
+    ∙ ap (λ x. earlier x (earlier a c)) (earlier_comm b d)
 
 assigned_is : (s : Scope) (n : Name) (i : Index) (e : Formula)
     → least_of (assigned_kinds s n i e) ≡ earlier (least_of (assigned_places s n i e)) (earlier (least_of (places_inside s (inside_index i))) (least_of (places_inside s (inside e))))
@@ -45,9 +45,8 @@ assigned_is s n i e =
     let u = unless ((of_name s n.text).is_place && is_named_rightly s (is_indexed i) n) n.at in
     let w = when (is_other (place_kind (of_name s n.text)) (worth s e).kind) n.at in
     let x = places_inside s (inside e) in
-    rw (least_append (index_kinds s i ++ x ++ u) w, least_append (index_kinds s i ++ x) u, least_append (index_kinds s i) x, index_is s i,
-        least_append (u ++ w) (index_places s i), least_append u w)
-    (five (least_of (places_inside s (inside_index i))) (least_of (index_places s i)) (least_of x) (least_of u) (least_of w))
+    rw (least_append (index_kinds s i ++ x) (u ++ w), least_append (index_kinds s i) x, index_is s i, least_append (u ++ w) (index_places s i), least_append u w)
+    (four (least_of (places_inside s (inside_index i))) (least_of (index_places s i)) (least_of x) (earlier (least_of u) (least_of w)))
 
 -- the least fault of kind
 pub kinds_are : (s : Scope) (b : Block) → least_of (block_kinds s b) ≡ earlier (least_of (block_places s b)) (least_of (places_inside s (inside_block b)))

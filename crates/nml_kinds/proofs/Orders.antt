@@ -1,8 +1,9 @@
 -- Places may be taken in any order.
-use Rattle.std.proofs.Common.{ℕ, min, List, [], ◌∷◌, ◌++◌, ◌≡◌, refl, ap, sym, ◌∙◌, Option, Some, None, arith}
+use Rattle.std.proofs.Common.{ℕ, zero, suc, ◌+◌, ◌<◌, min, List, [], ◌∷◌, ◌++◌, map, flat_map, drop, length, get_or, ◌≡◌, refl, ap, sym, ◌∙◌, Option, Some, None, arith}
+use Rattle.nml_tree.proofs.Drops.{dropped}
 use Rattle.nml_tree.specs.Places.{earlier, least_of}
 use Rattle.nml_names.specs.Note.{noted}
-use Rattle.nml_names.proofs.Notes.{noted_is}
+use Rattle.nml_names.proofs.Notes.{noted_is, noted_append}
 
 pub earlier_assoc : (a b c : Option ℕ) → earlier (earlier a b) c ≡ earlier a (earlier b c)
 earlier_assoc None b c = refl
@@ -31,3 +32,13 @@ least_append (x ∷ xs) ys = ap (earlier (Some x)) (least_append xs ys) ∙ sym 
 -- lists with one least are noted alike
 pub noted_same : (found : Option ℕ) (xs ys : List ℕ) → least_of xs ≡ least_of ys → noted found xs ≡ noted found ys
 noted_same found xs ys h = noted_is found xs ∙ ap (earlier found) h ∙ sym (noted_is found ys)
+
+-- one of a list behind those before it
+pub one_noted : {A : Type 0} (f : A → List ℕ) (x : A) (xs : List A) (a b : Option ℕ) → b ≡ noted a (f x) → noted a (flat_map f (x ∷ xs)) ≡ noted b (flat_map f xs)
+one_noted f x xs a b h = noted_append a (f x) (flat_map f xs) ∙ ap (λ y. noted y (flat_map f xs)) (sym h)
+
+-- the same in a loop over a list with marks
+pub next_noted : {A : Type 0} (f : A → List ℕ) (rest : List (ℕ × A)) (i : ℕ) (d : ℕ × A) (a b : Option ℕ) → i < length rest → d ≡ get_or rest i d → b ≡ noted a (f d.1)
+    → noted b (flat_map f (map (λ (mark, x). x) (drop (i + 1) rest))) ≡ noted a (flat_map f (map (λ (mark, x). x) (drop i rest)))
+next_noted f rest i d a b low is h =
+    sym (ap (λ xs. noted a (flat_map f (map (λ (mark, x). x) xs))) (dropped rest i d low is) ∙ one_noted f d.1 (map (λ (mark, x). x) (drop (i + 1) rest)) a b h)

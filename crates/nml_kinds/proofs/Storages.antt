@@ -33,10 +33,17 @@ saturated t cells storages (item.OrRule r ∷ items) = saturated t cells storage
 saturated t cells storages (item.OpRule r ∷ items) = saturated t cells storages items
 saturated t cells storages (item.ModeRule r ∷ items) = saturated t cells storages items
 
+cells_pass : (cells sum whole : ℕ) → sum ≡ min whole 1048577 → (nat_le cells 1048576 && nat_lt 1048576 whole) ≡ (nat_le cells 1048576 && nat_lt 1048576 sum)
+cells_pass cells sum whole is = grind (arith, nat_tests)
+
 -- one storage more
-pub one_storage : (t : Table) (s : Storage) (cells storages more : ℕ) (a b : Bool) (found one two : Option ℕ) (items : List Item)
-    → (nat_le cells 1048576 && nat_lt 1048576 (cells + size_or_none t s.size)) ≡ a → (storages == 65536) ≡ b
-    → one ≡ noted found (when a s.name.at) → two ≡ noted one (when b s.name.at)
-    → noted found (storage_places t cells storages (item.Storage s ∷ items)) ≡ noted two (storage_places t (min (cells + size_or_none t s.size) 1048577) (min (storages + 1) 65537) items)
-one_storage t s cells storages more a b found one two items at bt o w =
-    rw (at, bt, w, o, ← saturated t (cells + size_or_none t s.size) (storages + 1) items, noted_append found (when a s.name.at ++ when b s.name.at) (storage_places t (cells + size_or_none t s.size) (storages + 1) items), noted_append found (when a s.name.at) (when b s.name.at)) refl
+pub one_storage : (t : Table) (s : Storage) (cells storages size sum count : ℕ) (found one two : Option ℕ) (items : List Item)
+    → size ≡ size_or_none t s.size → sum ≡ min (cells + size) 1048577 → count ≡ min (storages + 1) 65537
+    → one ≡ noted found (when (nat_le cells 1048576 && nat_lt 1048576 sum) s.name.at) → two ≡ noted one (when (storages == 65536) s.name.at)
+    → noted found (storage_places t cells storages (item.Storage s ∷ items)) ≡ noted two (storage_places t sum count items)
+one_storage t s cells storages size sum count found one two items z a b o w =
+    let cellwise = when (nat_le cells 1048576 && nat_lt 1048576 sum) s.name.at in
+    let numberwise = when (storages == 65536) s.name.at in
+    let rest = storage_places t sum count items in
+    let whole : storage_places t (cells + size) (storages + 1) items ≡ rest = saturated t (cells + size) (storages + 1) items ∙ rw (← a, ← b) refl in
+    rw (← z, cells_pass cells sum (cells + size) a, whole, w, o) (noted_append found (cellwise ++ numberwise) rest ∙ ap (λ f. noted f rest) (noted_append found cellwise numberwise))

@@ -2,5 +2,11 @@
 #![tactic(auto)]
 
 mod declared;
+mod faults;
+mod statement;
 mod storage;
+mod stub;
+mod test;
 mod ty;
+
+pub use faults::Faults;

@@ -1,6 +1,6 @@
 //! The cells and the number of storages.
 
-ghost use Rattle.std.specs.Prelude.{◌≡◌, ◌≤◌, ◌+◌, ◌∷◌, min, List};
+ghost use Rattle.std.specs.Prelude.{◌≡◌, ◌≤◌, ◌+◌, ◌&&◌, ◌∷◌, min, nat_le, nat_lt, List};
 ghost use Rattle.nml_names.specs.Note.{noted};
 ghost use Rattle.nml_tree.specs.Table.{table};
 ghost use Rattle.nml_tree.specs.WidthFault as spec;
@@ -42,6 +42,13 @@ fn more_storages(storages: u32) -> u32
     if storages <= MOST_STORAGES { storages + 1 } else { 65537 }
 }
 
+/// Whether the cells become too many.
+fn passes(before: u32, cells: u32) -> bool
+    ensures { result ≡ (nat_le before 1048576 && nat_lt 1048576 cells) }
+{
+    before <= MOST_CELLS && cells > MOST_CELLS
+}
+
 /// Notes the storage where it passes a limit.
 fn storage(names: &Names<'_>, s: &Storage, before: Stored) -> Stored
     requires few { (before.cells ≤ 1048577) × (before.storages ≤ 65537) }
@@ -50,7 +57,7 @@ fn storage(names: &Names<'_>, s: &Storage, before: Stored) -> Stored
 {
     let size = names.size_or_none(&s.size);
     let cells = more_cells(before.cells, size);
-    let found = note(before.found, before.cells <= MOST_CELLS && cells > MOST_CELLS, s.name.at);
+    let found = note(before.found, passes(before.cells, cells), s.name.at);
     let found = note(found, before.storages == MOST_STORAGES, s.name.at);
     Stored {
         cells,

@@ -3,8 +3,11 @@
 
 mod characters;
 mod directive;
+mod parameters;
 mod piece;
 mod text;
+mod widths;
 
-pub use directive::Given;
+pub use parameters::Parameters;
 pub use text::{Which, is_right};
+pub use widths::Widths;

@@ -6,10 +6,12 @@ ghost use Rattle.nk_base.specs.Text.{text_eq};
 ghost use Rattle.nml_tree.specs.Attribute.{pieces};
 ghost use Rattle.nml_tree.specs.Directives as spec;
 ghost use Rattle.nml_tree.specs.Directives.{Pars};
+ghost use Rattle.nml_texts.specs.Around.{around};
 ghost use Rattle.nml_texts.specs.Given.{AreGiven, given, which};
 
 use crate::characters::{are_allowed, has_short_runs};
 use crate::directive::{Given, is_same, takes};
+use crate::parameters::Parameters;
 use crate::piece::{Piece, next_piece};
 use indexmap::IndexMap;
 use nk_base::Text;
@@ -88,7 +90,14 @@ fn are_right(
 /// A directive takes a field, `%d` in a syntax and `%b` in an image, there also with the field's width before the letter, or, as `%s`,
 /// the same attribute of a part; beside them a syntax has characters of assembly text, with no more than 18 digits side by side, and an
 /// image has bits. The rule is this project's own.
-pub fn is_right(w: Which, map: &IndexMap<Text, Given>, text: &Template) -> bool
+pub fn is_right(w: Which, pars: &Parameters<'_>, text: &Template) -> bool
+    ensures { result ≡ spec.is_right (which w) (around pars.now) text.now }
+{
+    is_right_by(w, &pars.map, text)
+}
+
+/// The same, by what is told of each name.
+fn is_right_by(w: Which, map: &IndexMap<Text, Given>, text: &Template) -> bool
     ensures { (pars : Pars) → AreGiven map.now.entries pars → result ≡ spec.is_right (which w) pars text.now }
 {
     match text {
