@@ -5,3 +5,4 @@ pub mod Blocks
 pub mod Expressions
 pub mod Rules
 pub mod Parts
+pub mod Alternatives

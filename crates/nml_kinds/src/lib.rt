@@ -1,12 +1,15 @@
 //! The first place at which a description has a fault of kind, and the first at which it has one of width.
 #![tactic(auto)]
 
+mod alternative;
 mod declared;
 mod faults;
+mod item;
+mod rule;
 mod statement;
 mod storage;
 mod stub;
 mod test;
 mod ty;
 
-pub use faults::Faults;
+pub use faults::{Faults, first_faults};

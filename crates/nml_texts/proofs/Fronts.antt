@@ -1,5 +1,5 @@
 -- What the first items of a description declare.
-use Rattle.std.proofs.Common.{◌≡◌, ℕ, zero, suc, ◌+◌, ◌≤◌, ◌<◌, nat_lt, Bool, true, false, List, [], ◌∷◌, ◌++◌, take, length, get_or, slice_get, Option, Some, None, option_map, option_and_then, unwrap_or, refl, ap, sym, ◌∙◌, arith, if◌then◌else◌, ◌⊎◌, inl, inr}
+use Rattle.std.proofs.Common.{◌≡◌, ℕ, zero, suc, ◌+◌, ◌≤◌, ◌<◌, nat_lt, Bool, true, false, List, [], ◌∷◌, ◌++◌, take, length, get_or, slice_get, Option, Some, None, option_map, option_and_then, unwrap_or, refl, ap, sym, subst, ◌∙◌, arith, if◌then◌else◌, ◌⊎◌, inl, inr}
 use Rattle.std.proofs.lemmas.Bool.Decides.{nat_tests}
 use Rattle.std.specs.Map.{lookup}
 use Rattle.std.specs.Option.{option_or}
@@ -67,10 +67,10 @@ from_front t j (suc k) (i ∷ items) name none =
   where
     by : (b : Bool) → text_eq name (declares i).text ≡ b
         → (lookup (text_eq name) (t ++ entry t i ∷ []) ≡ None
-            → lookup (text_eq name) (entries (t ++ entry t i ∷ []) (take k items)) ≡ (if is_before (j + 1 + k) (first_of (declaration (j + 1) items name)) then lookup (text_eq name) (entries (t ++ entry t i ∷ []) items) else None))
+        → lookup (text_eq name) (entries (t ++ entry t i ∷ []) (take k items)) ≡ (if is_before (j + 1 + k) (first_of (declaration (j + 1) items name)) then lookup (text_eq name) (entries (t ++ entry t i ∷ []) items) else None))
         → lookup (text_eq name) (entries (t ++ entry t i ∷ []) (take k items))
         ≡ (if is_before (j + suc k) (first_of (if b then Some (record { first = j; place = least_place (declares i).at (declaration (j + 1) items name); late = is_late i; rule = is_rule i; constant = constant_of i }) else declaration (j + 1) items name))
-            then lookup (text_eq name) (entries (t ++ entry t i ∷ []) items) else None)
+        then lookup (text_eq name) (entries (t ++ entry t i ∷ []) items) else None)
     by true e rest =
         let h = behind t i name true none e in
         let low : nat_lt j (j + suc k) ≡ true = lt_true j (j + suc k) (omega arith) in
@@ -80,7 +80,9 @@ from_front t j (suc k) (i ∷ items) name none =
         rw n (rest (behind t i name false none e))
 
 pub front_is : (d : Desc) (k : ℕ) (name : Text) → declared (entries [] (take k d.items)) name ≡ (if is_before k (item_number d name) then declared (table d) name else None)
-front_is d k name = let z : 0 + k ≡ k = omega arith in rw z at from_front [] 0 k d.items name refl
+front_is d k name =
+    let z : 0 + k ≡ k = omega arith in
+    subst (λ m. declared (entries [] (take k d.items)) name ≡ (if is_before m (item_number d name) then declared (table d) name else None)) z (from_front [] 0 k d.items name refl)
 
 pub in_front : (d : Desc) (k : ℕ) (name : Text) (b : Bool) → b ≡ is_before k (item_number d name) → declared (entries [] (take k d.items)) name ≡ (if b then declared (table d) name else None)
 in_front d k name b e = front_is d k name ∙ ap (λ b. if b then declared (table d) name else None) (sym e)
@@ -120,11 +122,12 @@ first_entry t j n (i ∷ items) name x none is low at = by n (text_eq name (decl
     not_here : (o : Option Declaration) → declaration (j + 1) items name ≡ o → first_of o ≡ Some (j + 0) → ⊥
     not_here None e h = cc
     not_here (Some d) e h = let l = first_from items (j + 1) name d e in let s = some_same _ _ h in omega (arith, l, s)
+
     by : (n : ℕ) (b : Bool) → text_eq name (declares i).text ≡ b
         → first_of (if b then Some (record { first = j; place = least_place (declares i).at (declaration (j + 1) items name); late = is_late i; rule = is_rule i; constant = constant_of i }) else declaration (j + 1) items name) ≡ Some (j + n)
         → n < suc (length items) → x ≡ get_or (i ∷ items) n x
         → ((m : ℕ) → lookup (text_eq name) (t ++ entry t i ∷ []) ≡ None → first_of (declaration (j + 1) items name) ≡ Some (j + 1 + m) → m < length items → x ≡ get_or items m x
-            → lookup (text_eq name) (entries (t ++ entry t i ∷ []) items) ≡ Some (entry (entries (t ++ entry t i ∷ []) (take m items)) x).1)
+        → lookup (text_eq name) (entries (t ++ entry t i ∷ []) items) ≡ Some (entry (entries (t ++ entry t i ∷ []) (take m items)) x).1)
         → lookup (text_eq name) (entries (t ++ entry t i ∷ []) items) ≡ Some (entry (entries t (take n (i ∷ items))) x).1
     by zero true e is low at rest = rw at (kept name (t ++ entry t i ∷ []) items (entry t i).1 (behind t i name true none e))
     by (suc m) true e is low at rest = let s = some_same _ _ is in absurd (omega (arith, s))
@@ -144,7 +147,7 @@ get_new (x ∷ xs) y = get_new xs y
 
 length_more : (xs : List ℕ) (y : ℕ) → length (xs ++ y ∷ []) ≡ length xs + 1
 length_more [] y = refl
-length_more (x ∷ xs) y = ap suc (length_more xs y)
+length_more (x ∷ xs) y = let h = length_more xs y in omega (arith, h)
 
 -- what is known of the bits of the first items
 pub record Known (d : Desc) (bits : List ℕ) (k : ℕ) : Type 0 where

@@ -1,5 +1,6 @@
 -- What is told of parameters, with one more.
-use Rattle.std.proofs.Common.{◌≡◌, ℕ, Bool, true, false, cond, List, [], ◌∷◌, ◌++◌, map, Option, Some, None, option_map, is_some, refl, ap, sym, ◌∙◌, if◌then◌else◌}
+use Rattle.std.proofs.Common.{◌≡◌, ℕ, zero, suc, ◌+◌, ◌≤◌, ◌<◌, take, length, get_or, append_assoc, arith, Bool, true, false, cond, List, [], ◌∷◌, ◌++◌, map, Option, Some, None, option_map, is_some, refl, ap, sym, ◌∙◌, if◌then◌else◌}
+use Rattle.std.proofs.lemmas.List.{take_all}
 use Rattle.std.specs.Map.{lookup}
 use Rattle.std.specs.Option.{option_or}
 use Rattle.nk_base.specs.Text.{text_eq}
@@ -9,7 +10,7 @@ use Rattle.nml_tree.specs.Directives.{Pars}
 use Rattle.nml_tree.specs.Table.{Text, Parameter, parameter_of, table}
 use Rattle.nml_tree.proofs.SameText.{same_text, equal_text, turned}
 use Rattle.nml_texts.specs.declared.directive.Given.{Given}
-use Rattle.nml_texts.specs.Around.{what_are}
+use Rattle.nml_texts.specs.Around.{further, what_are}
 use Rattle.nml_texts.specs.Given.{AreGiven, given}
 
 -- the parameters with one more
@@ -58,3 +59,16 @@ given_new d es new ps p key g are lacks named told updated = λ name.
         let same : name ≡ p.name.text = same_text name p.name.text e in
         rw e (other_or (lookup (text_eq name) (what_are d ps)) (parameter_of (table d) p.ty) (ap is_some (sym (are name)) ∙ ap (λ n. is_some (lookup (text_eq n) es)) same ∙ lacks))
     by name false e = rw (e, or_none (lookup (text_eq name) (what_are d ps))) (are name)
+
+taken_more : (rest : List (ℕ × Par)) (i : ℕ) (x : ℕ × Par) → i < length rest → x ≡ get_or rest i x → further (take (suc i) rest) ≡ further (take i rest) ++ x.1 ∷ []
+taken_more [] i x low is = absurd (omega (arith, low))
+taken_more (r ∷ rest) zero x low is = rw is refl
+taken_more (r ∷ rest) (suc i) x low is = ap (λ ps. r.1 ∷ ps) (taken_more rest i x (omega (arith, low)) is)
+
+pub one_further : (rest : List (ℕ × Par)) (i : ℕ) (x : ℕ × Par) (ps : List Par) → i < length rest → x ≡ get_or rest i x → (ps ++ further (take i rest)) ++ x.1 ∷ [] ≡ ps ++ further (take (i + 1) rest)
+one_further rest i x ps low is =
+    let n : i + 1 ≡ suc i = omega arith in
+    rw (n, taken_more rest i x low is) (append_assoc ps (further (take i rest)) (x.1 ∷ []))
+
+pub all_further : (rest : List (ℕ × Par)) (i : ℕ) (ps : List Par) → length rest ≤ i → ps ++ further (take i rest) ≡ ps ++ further rest
+all_further rest i ps far = ap (λ r. ps ++ further r) (take_all i rest far)

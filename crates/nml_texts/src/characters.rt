@@ -77,11 +77,7 @@ fn run_behind(run: u32, piece: Piece<'_>) -> u32
     ensures run { (ps : List FormatPiece) → spec.are_short run (seen piece.entry ∷ ps) ≡ (nat_le result 18 && spec.are_short result ps) }
 {
     match piece {
-        Piece::Letter(c) => if c.is_ascii_digit() {
-            run + 1
-        } else {
-            0
-        },
+        Piece::Letter(c) => if c.is_ascii_digit() { run + 1 } else { 0 },
         Piece::Directive(_, _) => 0,
     }
 }

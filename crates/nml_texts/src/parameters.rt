@@ -47,7 +47,11 @@ impl<'a> Model for Parameters<'a> {
 
 impl<'a> Parameters<'a> {
     /// The parameters of a rule. The one error is want of memory.
-    pub fn new(alloc: Global, widths: &'a Widths<'a>, pars: &'a Option<Pars>) -> Result<Parameters<'a>, Memory>
+    pub fn new(
+        alloc: Global,
+        widths: &'a Widths<'a>,
+        pars: &'a Option<Pars>,
+    ) -> Result<Parameters<'a>, Memory>
         ensures { IfOk result (λ s. s ≡ (widths.now, pars.now)) }
     {
         let map = all_given(alloc, widths, pars)?;
@@ -92,11 +96,16 @@ fn add(widths: &Widths<'_>, map: &mut IndexMap<Text, Given>, p: &Par) -> Result<
         return Ok(());
     }
     let key = p.name.text.clone()?;
-    tell(map, key, given(widths, p))
+    tell(map, key, given(widths, p))?;
+    Ok(())
 }
 
 /// Adds further parameters.
-fn add_rest(widths: &Widths<'_>, map: &mut IndexMap<Text, Given>, rest: &[(u32, Par)]) -> Result<(), Memory>
+fn add_rest(
+    widths: &Widths<'_>,
+    map: &mut IndexMap<Text, Given>,
+    rest: &[(u32, Par)],
+) -> Result<(), Memory>
     ensures { OnOk result ((ps : List tree.Par) → AreGiven map.old.entries (what_are widths.now ps) → AreGiven map.new.entries (what_are widths.now (ps ++ further rest.now))) }
 {
     for (_, p) in rest {
@@ -106,7 +115,11 @@ fn add_rest(widths: &Widths<'_>, map: &mut IndexMap<Text, Given>, rest: &[(u32, 
 }
 
 /// What is told of the parameters.
-fn all_given(alloc: Global, widths: &Widths<'_>, pars: &Option<Pars>) -> Result<IndexMap<Text, Given>, Memory>
+fn all_given(
+    alloc: Global,
+    widths: &Widths<'_>,
+    pars: &Option<Pars>,
+) -> Result<IndexMap<Text, Given>, Memory>
     ensures { IfOk result (λ m. AreGiven m.entries (what_are widths.now (pars_of pars.now))) }
 {
     let mut map = IndexMap::new(alloc);

@@ -46,12 +46,7 @@ fn is_part(map: &IndexMap<Text, Given>, name: &Text) -> bool
 }
 
 /// Whether each directive has one argument of its kind, in order, and none is left over.
-fn are_taken(
-    w: Which,
-    map: &IndexMap<Text, Given>,
-    text: &[u8],
-    args: &[(u32, Arg)],
-) -> bool
+fn are_taken(w: Which, map: &IndexMap<Text, Given>, text: &[u8], args: &[(u32, Arg)]) -> bool
     ensures { (pars : Pars) → AreGiven map.now.entries pars → result ≡ spec.are_taken (which w) pars (pieces text.now) args.now }
 {
     let mut text = text;
@@ -61,7 +56,13 @@ fn are_taken(
             match args.split_first() {
                 None => return false,
                 Some(((_, arg), left)) => {
-                    if !takes(w, digits, letter, parameter(map, &arg.name.text), &arg.attribute) {
+                    if !takes(
+                        w,
+                        digits,
+                        letter,
+                        parameter(map, &arg.name.text),
+                        &arg.attribute,
+                    ) {
                         return false;
                     }
                     args = left;
@@ -74,12 +75,7 @@ fn are_taken(
 }
 
 /// Whether the string with its arguments is right.
-fn are_right(
-    w: Which,
-    map: &IndexMap<Text, Given>,
-    text: &[u8],
-    args: &[(u32, Arg)],
-) -> bool
+fn are_right(w: Which, map: &IndexMap<Text, Given>, text: &[u8], args: &[(u32, Arg)]) -> bool
     ensures { (pars : Pars) → AreGiven map.now.entries pars → result ≡ spec.are_right (which w) pars (pieces text.now) args.now }
 {
     are_taken(w, map, text, args) && are_allowed(w, text) && has_short_runs(w, text)
