@@ -42,3 +42,8 @@ pub next_noted : {A : Type 0} (f : A → List ℕ) (rest : List (ℕ × A)) (i :
     → noted b (flat_map f (map (λ (mark, x). x) (drop (i + 1) rest))) ≡ noted a (flat_map f (map (λ (mark, x). x) (drop i rest)))
 next_noted f rest i d a b low is h =
     sym (ap (λ xs. noted a (flat_map f (map (λ (mark, x). x) xs))) (dropped rest i d low is) ∙ one_noted f d.1 (map (λ (mark, x). x) (drop (i + 1) rest)) a b h)
+
+-- and over a list without marks
+pub item_noted : {A : Type 0} (f : A → List ℕ) (xs : List A) (i : ℕ) (x : A) (a b : Option ℕ) → i < length xs → x ≡ get_or xs i x → b ≡ noted a (f x)
+    → noted b (flat_map f (drop (i + 1) xs)) ≡ noted a (flat_map f (drop i xs))
+item_noted f xs i x a b low is h = sym (ap (λ ys. noted a (flat_map f ys)) (dropped xs i x low is) ∙ one_noted f x (drop (i + 1) xs) a b h)
