@@ -52,8 +52,14 @@ assigned_is s n i e =
 pub kinds_are : (s : Scope) (b : Block) → least_of (block_kinds s b) ≡ earlier (least_of (block_places s b)) (least_of (places_inside s (inside_block b)))
 kinds_are s block.Done = refl
 kinds_are s (block.Assign n i at e semicolon rest) =
-    rw (least_append (assigned_kinds s n i e) (block_kinds s rest), assigned_is s n i e, kinds_are s rest, least_append (assigned_places s n i e) (block_places s rest),
-        least_flat (node_places s) (inside_index i ++ inside e) (inside_block rest), least_flat (node_places s) (inside_index i) (inside e))
+    rw (
+      least_append (assigned_kinds s n i e) (block_kinds s rest),
+      assigned_is s n i e,
+      kinds_are s rest,
+      least_append (assigned_places s n i e) (block_places s rest),
+      least_flat (node_places s) (inside_index i ++ inside e) (inside_block rest),
+      least_flat (node_places s) (inside_index i) (inside e),
+    )
     (earlier_pairs (least_of (assigned_places s n i e)) (earlier (least_of (places_inside s (inside_index i))) (least_of (places_inside s (inside e)))) (least_of (block_places s rest)) (least_of (places_inside s (inside_block rest))))
 kinds_are s (block.Part n dot at semicolon rest) =
     let u = unless (is_part (parameter s.pars n.text)) n.at in
@@ -67,9 +73,17 @@ kinds_are s (block.If at c t xs end semicolon rest) =
     let o = least_of (operand_places s Truth c) in
     let x = least_of (block_places s xs) in
     let j = least_of (places_inside s (inside_block xs)) in
-    rw (least_append (operand_kinds s Truth c ++ block_kinds s xs) (block_kinds s rest), least_append (operand_kinds s Truth c) (block_kinds s xs), operand_is s Truth c, kinds_are s xs, kinds_are s rest,
-        least_append (operand_places s Truth c ++ block_places s xs) (block_places s rest), least_append (operand_places s Truth c) (block_places s xs),
-        least_flat (node_places s) (inside c ++ inside_block xs) (inside_block rest), least_flat (node_places s) (inside c) (inside_block xs))
+    rw (
+      least_append (operand_kinds s Truth c ++ block_kinds s xs) (block_kinds s rest),
+      least_append (operand_kinds s Truth c) (block_kinds s xs),
+      operand_is s Truth c,
+      kinds_are s xs,
+      kinds_are s rest,
+      least_append (operand_places s Truth c ++ block_places s xs) (block_places s rest),
+      least_append (operand_places s Truth c) (block_places s xs),
+      least_flat (node_places s) (inside c ++ inside_block xs) (inside_block rest),
+      least_flat (node_places s) (inside c) (inside_block xs),
+    )
     (ap (λ y. earlier y (earlier (least_of (block_places s rest)) (least_of (places_inside s (inside_block rest))))) (own_first i o x j)
     ∙ earlier_pairs (earlier o x) (earlier i j) (least_of (block_places s rest)) (least_of (places_inside s (inside_block rest))))
 kinds_are s (block.IfElse at c t xs f ys end semicolon rest) =
@@ -79,12 +93,21 @@ kinds_are s (block.IfElse at c t xs f ys end semicolon rest) =
     let j = least_of (places_inside s (inside_block xs)) in
     let y = least_of (block_places s ys) in
     let k = least_of (places_inside s (inside_block ys)) in
-    rw (least_append (operand_kinds s Truth c ++ block_kinds s xs ++ block_kinds s ys) (block_kinds s rest), least_append (operand_kinds s Truth c ++ block_kinds s xs) (block_kinds s ys),
-        least_append (operand_kinds s Truth c) (block_kinds s xs), operand_is s Truth c, kinds_are s xs, kinds_are s ys, kinds_are s rest,
-        least_append (operand_places s Truth c ++ block_places s xs ++ block_places s ys) (block_places s rest), least_append (operand_places s Truth c ++ block_places s xs) (block_places s ys),
-        least_append (operand_places s Truth c) (block_places s xs),
-        least_flat (node_places s) (inside c ++ inside_block xs ++ inside_block ys) (inside_block rest), least_flat (node_places s) (inside c ++ inside_block xs) (inside_block ys),
-        least_flat (node_places s) (inside c) (inside_block xs))
+    rw (
+      least_append (operand_kinds s Truth c ++ block_kinds s xs ++ block_kinds s ys) (block_kinds s rest),
+      least_append (operand_kinds s Truth c ++ block_kinds s xs) (block_kinds s ys),
+      least_append (operand_kinds s Truth c) (block_kinds s xs),
+      operand_is s Truth c,
+      kinds_are s xs,
+      kinds_are s ys,
+      kinds_are s rest,
+      least_append (operand_places s Truth c ++ block_places s xs ++ block_places s ys) (block_places s rest),
+      least_append (operand_places s Truth c ++ block_places s xs) (block_places s ys),
+      least_append (operand_places s Truth c) (block_places s xs),
+      least_flat (node_places s) (inside c ++ inside_block xs ++ inside_block ys) (inside_block rest),
+      least_flat (node_places s) (inside c ++ inside_block xs) (inside_block ys),
+      least_flat (node_places s) (inside c) (inside_block xs),
+    )
     (ap (λ z. earlier z (earlier (least_of (block_places s rest)) (least_of (places_inside s (inside_block rest)))))
     (ap (λ z. earlier z (earlier y k)) (own_first i o x j) ∙ earlier_pairs (earlier o x) (earlier i j) y k)
     ∙ earlier_pairs (earlier (earlier o x) y) (earlier (earlier i j) k) (least_of (block_places s rest)) (least_of (places_inside s (inside_block rest))))
@@ -100,10 +123,16 @@ widths_are s (block.Assign n i at e semicolon rest) =
     let x = least_of (widths_inside s (inside_index i)) in
     let v = least_of (widths_inside s (inside e)) in
     let a = least_of (node_widths s (as_read n i)) in
-    rw (least_append (index_widths s i ++ node_widths s (as_read n i) ++ widths_inside s (inside e)) (block_widths s rest), least_append (index_widths s i ++ node_widths s (as_read n i)) (widths_inside s (inside e)),
-        least_append (index_widths s i) (node_widths s (as_read n i)), index_width s i, widths_are s rest,
-        least_flat (node_widths s) (inside_index i ++ inside e) (inside_block rest), least_flat (node_widths s) (inside_index i) (inside e),
-        least_append (node_widths s (as_read n i)) (widths_inside s (assigned rest)))
+    rw (
+      least_append (index_widths s i ++ node_widths s (as_read n i) ++ widths_inside s (inside e)) (block_widths s rest),
+      least_append (index_widths s i ++ node_widths s (as_read n i)) (widths_inside s (inside e)),
+      least_append (index_widths s i) (node_widths s (as_read n i)),
+      index_width s i,
+      widths_are s rest,
+      least_flat (node_widths s) (inside_index i ++ inside e) (inside_block rest),
+      least_flat (node_widths s) (inside_index i) (inside e),
+      least_append (node_widths s (as_read n i)) (widths_inside s (assigned rest)),
+    )
     (ap (λ z. earlier z (earlier (least_of (widths_inside s (inside_block rest))) (least_of (widths_inside s (assigned rest))))) (earlier_swap x a v)
     ∙ earlier_pairs (earlier x v) a (least_of (widths_inside s (inside_block rest))) (least_of (widths_inside s (assigned rest))))
 widths_are s (block.Part n dot at semicolon rest) = widths_are s rest
@@ -116,9 +145,15 @@ widths_are s (block.If at c t xs end semicolon rest) =
     let a = least_of (widths_inside s (assigned xs)) in
     let r = least_of (widths_inside s (inside_block rest)) in
     let b = least_of (widths_inside s (assigned rest)) in
-    rw (least_append (widths_inside s (inside c) ++ block_widths s xs) (block_widths s rest), least_append (widths_inside s (inside c)) (block_widths s xs), widths_are s xs, widths_are s rest,
-        least_flat (node_widths s) (inside c ++ inside_block xs) (inside_block rest), least_flat (node_widths s) (inside c) (inside_block xs),
-        least_flat (node_widths s) (assigned xs) (assigned rest))
+    rw (
+      least_append (widths_inside s (inside c) ++ block_widths s xs) (block_widths s rest),
+      least_append (widths_inside s (inside c)) (block_widths s xs),
+      widths_are s xs,
+      widths_are s rest,
+      least_flat (node_widths s) (inside c ++ inside_block xs) (inside_block rest),
+      least_flat (node_widths s) (inside c) (inside_block xs),
+      least_flat (node_widths s) (assigned xs) (assigned rest),
+    )
     (ap (λ z. earlier z (earlier r b)) (sym (earlier_assoc i x a)) ∙ earlier_pairs (earlier i x) a r b)
 widths_are s (block.IfElse at c t xs f ys end semicolon rest) =
     let i = least_of (widths_inside s (inside c)) in
@@ -128,10 +163,18 @@ widths_are s (block.IfElse at c t xs f ys end semicolon rest) =
     let d = least_of (widths_inside s (assigned ys)) in
     let r = least_of (widths_inside s (inside_block rest)) in
     let b = least_of (widths_inside s (assigned rest)) in
-    rw (least_append (widths_inside s (inside c) ++ block_widths s xs ++ block_widths s ys) (block_widths s rest), least_append (widths_inside s (inside c) ++ block_widths s xs) (block_widths s ys),
-        least_append (widths_inside s (inside c)) (block_widths s xs), widths_are s xs, widths_are s ys, widths_are s rest,
-        least_flat (node_widths s) (inside c ++ inside_block xs ++ inside_block ys) (inside_block rest), least_flat (node_widths s) (inside c ++ inside_block xs) (inside_block ys),
-        least_flat (node_widths s) (inside c) (inside_block xs),
-        least_flat (node_widths s) (assigned xs ++ assigned ys) (assigned rest), least_flat (node_widths s) (assigned xs) (assigned ys))
+    rw (
+      least_append (widths_inside s (inside c) ++ block_widths s xs ++ block_widths s ys) (block_widths s rest),
+      least_append (widths_inside s (inside c) ++ block_widths s xs) (block_widths s ys),
+      least_append (widths_inside s (inside c)) (block_widths s xs),
+      widths_are s xs,
+      widths_are s ys,
+      widths_are s rest,
+      least_flat (node_widths s) (inside c ++ inside_block xs ++ inside_block ys) (inside_block rest),
+      least_flat (node_widths s) (inside c ++ inside_block xs) (inside_block ys),
+      least_flat (node_widths s) (inside c) (inside_block xs),
+      least_flat (node_widths s) (assigned xs ++ assigned ys) (assigned rest),
+      least_flat (node_widths s) (assigned xs) (assigned ys),
+    )
     (ap (λ z. earlier z (earlier r b)) (ap (λ z. earlier z (earlier y d)) (sym (earlier_assoc i x a)) ∙ earlier_pairs (earlier i x) a y d)
     ∙ earlier_pairs (earlier (earlier i x) y) (earlier a d) r b)

@@ -10,8 +10,8 @@ use Rattle.nml_tree.specs.Worth as worth
 use Rattle.nml_tree.specs.Worth.{Scope, is_other}
 use Rattle.nml_names.specs.Note.{noted}
 use Rattle.nml_names.proofs.Notes.{noted_append}
-use Rattle.nml_kinds.specs.declared.stub.Worth.{Worth}
-use Rattle.nml_kinds.specs.Shown.{seen_kind, shown}
+use Rattle.nml_worth.specs.declared.worth.Worth.{Worth}
+use Rattle.nml_worth.specs.Shown.{seen_kind, shown}
 use Rattle.nml_kinds.specs.Statements.{operand_kinds, assigned_kinds, index_kinds, name_kinds}
 use Rattle.nml_kinds.proofs.KindLaws.{seen_shown}
 

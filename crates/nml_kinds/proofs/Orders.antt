@@ -1,5 +1,5 @@
 -- Places may be taken in any order.
-use Rattle.std.proofs.Common.{ℕ, zero, suc, ◌+◌, ◌<◌, min, List, [], ◌∷◌, ◌++◌, map, flat_map, drop, length, get_or, ◌≡◌, refl, ap, sym, ◌∙◌, Option, Some, None, arith}
+use Rattle.std.proofs.Common.{ℕ, zero, suc, ◌+◌, ◌<◌, ◌≤◌, min, List, [], ◌∷◌, ◌++◌, map, flat_map, drop, length, get_or, ◌≡◌, refl, ap, sym, ◌∙◌, Option, Some, None, arith}
 use Rattle.nml_tree.proofs.Drops.{dropped}
 use Rattle.nml_tree.specs.Places.{earlier, least_of}
 use Rattle.nml_names.specs.Note.{noted}
@@ -47,3 +47,10 @@ next_noted f rest i d a b low is h =
 pub item_noted : {A : Type 0} (f : A → List ℕ) (xs : List A) (i : ℕ) (x : A) (a b : Option ℕ) → i < length xs → x ≡ get_or xs i x → b ≡ noted a (f x)
     → noted b (flat_map f (drop (i + 1) xs)) ≡ noted a (flat_map f (drop i xs))
 item_noted f xs i x a b low is h = sym (ap (λ ys. noted a (flat_map f ys)) (dropped xs i x low is) ∙ one_noted f x (drop (i + 1) xs) a b h)
+
+-- nothing is left behind the last
+pub all_noted : {A : Type 0} (f : A → List ℕ) (xs : List A) (i : ℕ) (a : Option ℕ) → length xs ≤ i → noted a (flat_map f (drop i xs)) ≡ a
+all_noted f [] zero a far = refl
+all_noted f [] (suc i) a far = refl
+all_noted f (x ∷ xs) zero a far = absurd (omega (arith, far))
+all_noted f (x ∷ xs) (suc i) a far = all_noted f xs i a (omega (arith, far))

@@ -7,8 +7,8 @@ use Rattle.nml_tree.specs.declared.tree.Pars.{Pars}
 use Rattle.nml_tree.specs.declared.tree.Desc.{Desc}
 use Rattle.nml_tree.specs.Table.{Text, Table, Declared, Constant, TypeName, Storage, Trn, Inp, Out, Or, And, declared, table, type_of, Parameter, parameter_of, parameter_named}
 use Rattle.nml_tree.specs.Worth.{is_rule}
-use Rattle.nml_kinds.specs.declared.stub.Worth.{Worth}
-use Rattle.nml_kinds.specs.Around.{AreWorths, PartsKnown}
+use Rattle.nml_worth.specs.declared.worth.Worth.{Worth}
+use Rattle.nml_worth.specs.Around.{AreWorths, PartsKnown}
 
 named_rule : (t : Table) (name rule : Text) (x : Option Declared) → declared t name ≡ x → parameter_named name x ≡ Some (Parameter.Part rule) → is_rule (declared t rule) ≡ true
 named_rule t name rule None e h = absurd cc

@@ -14,7 +14,7 @@ use Rattle.nml_tree.specs.TypeFault.{node_places, places_inside, parameter_place
 use Rattle.nml_tree.specs.WidthFault.{node_widths, assigned, rule_widths}
 use Rattle.nml_names.specs.Note.{noted}
 use Rattle.nml_names.proofs.Notes.{noted_append}
-use Rattle.nml_kinds.specs.Around.{around}
+use Rattle.nml_worth.specs.Around.{around}
 use Rattle.nml_kinds.specs.Statements.{text_kinds, attribute_kinds, block_kinds, block_widths, value_kinds, value_widths, widths_inside}
 use Rattle.nml_kinds.proofs.Orders.{earlier_assoc, earlier_pairs, least_append, noted_same}
 use Rattle.nml_kinds.proofs.Blocks.{kinds_are, widths_are, least_flat}
@@ -37,9 +37,20 @@ rule_noted d ps v a found b c r first second third =
     let w = places_inside s (inside_value v) in
     third ∙ rw (second, first) (sym (noted_append found (p ++ value_kinds s v) (attribute_kinds s a) ∙ ap (λ y. noted y (attribute_kinds s a)) (noted_append found p (value_kinds s v)))
     ∙ noted_same found (p ++ value_kinds s v ++ attribute_kinds s a) (rule_places (table d) (rule_of ps v a))
-    (rw (least_append (p ++ value_kinds s v) (attribute_kinds s a), least_append p (value_kinds s v), least_append h w, least_append (x ++ i) (block_kinds s k), least_append x i, kinds_are s k,
-        least_append (p ++ h ++ x ++ i ++ block_places s k) (places_inside s (inside_value v ++ inside_block k)), least_append (p ++ h ++ x ++ i) (block_places s k), least_append (p ++ h ++ x) i,
-        least_append (p ++ h) x, least_append p h, least_flat (node_places s) (inside_value v) (inside_block k))
+    (rw (
+      least_append (p ++ value_kinds s v) (attribute_kinds s a),
+      least_append p (value_kinds s v),
+      least_append h w,
+      least_append (x ++ i) (block_kinds s k),
+      least_append x i,
+      kinds_are s k,
+      least_append (p ++ h ++ x ++ i ++ block_places s k) (places_inside s (inside_value v ++ inside_block k)),
+      least_append (p ++ h ++ x ++ i) (block_places s k),
+      least_append (p ++ h ++ x) i,
+      least_append (p ++ h) x,
+      least_append p h,
+      least_flat (node_places s) (inside_value v) (inside_block k),
+    )
     (reordered (least_of p) (least_of h) (least_of w) (least_of x) (least_of i) (least_of (block_places s k)) (least_of (places_inside s (inside_block k))))))
 
 -- and of width
@@ -54,7 +65,12 @@ rule_width_noted d ps v a found c r first second =
     let y = widths_inside s (assigned k) in
     second ∙ rw first (sym (noted_append found (value_widths s v) (block_widths s k))
     ∙ noted_same found (value_widths s v ++ block_widths s k) (rule_widths (table d) (rule_of ps v a))
-    (rw (least_append (value_widths s v) (block_widths s k), least_append h w, widths_are s k,
-        least_flat (node_widths s) (handed_on v ++ (inside_value v ++ inside_block k)) (assigned k), least_flat (node_widths s) (handed_on v) (inside_value v ++ inside_block k),
-        least_flat (node_widths s) (inside_value v) (inside_block k))
+    (rw (
+      least_append (value_widths s v) (block_widths s k),
+      least_append h w,
+      widths_are s k,
+      least_flat (node_widths s) (handed_on v ++ (inside_value v ++ inside_block k)) (assigned k),
+      least_flat (node_widths s) (handed_on v) (inside_value v ++ inside_block k),
+      least_flat (node_widths s) (inside_value v) (inside_block k),
+    )
     (sym (earlier_assoc (earlier (least_of h) (least_of w)) (least_of x) (least_of y)) ∙ ap (λ z. earlier z (least_of y)) (earlier_assoc (least_of h) (least_of w) (least_of x)))))

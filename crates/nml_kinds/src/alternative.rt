@@ -1,23 +1,22 @@
 //! The alternatives of or-rules.
 
 ghost use Rattle.std.specs.Prelude.{◌≡◌, ◌∷◌, List, Some, slice_get, true, unwrap_or};
-ghost use Rattle.nml_kinds.specs.declared.stub.Worth as code;
+ghost use Rattle.nml_worth.specs.declared.worth.Worth as code;
 ghost use Rattle.nml_names.specs.Note.{noted};
 ghost use Rattle.nml_tree.specs.Table.{declared, is_mode_word, table};
 ghost use Rattle.nml_tree.specs.TypeFault as spec;
 ghost use Rattle.nml_tree.specs.Worth as worth;
 ghost use Rattle.nml_tree.specs.declared.names.Name as tree;
-ghost use Rattle.nml_kinds.specs.Around.{AreWorths};
+ghost use Rattle.nml_worth.specs.Around.{AreWorths};
 ghost use Rattle.nml_kinds.specs.Parts.{alternatives_behind};
-ghost use Rattle.nml_kinds.specs.Shown.{seen_kind};
+ghost use Rattle.nml_worth.specs.Shown.{seen_kind};
 
 use crate::declared::is_rule_of;
-use crate::stub::{Kind, Worth};
-use crate::test::{is_other, known_first};
 use nk_base::Text;
 use nml_known::Names;
 use nml_names::note;
 use nml_tree::{Name, OrRule, RuleWord};
+use nml_worth::{Kind, Worth, is_other, known_first};
 
 /// The kind of the alternatives so far, where it is known, and the least place so far.
 #[derive(Clone, Copy)]

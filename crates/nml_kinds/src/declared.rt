@@ -12,23 +12,13 @@ ghost use Rattle.nml_tree.specs.Worth as worth;
 use nk_base::Ty;
 use nml_known::Known;
 use nml_names::note;
-use nml_tree::{Size, TypeExpr};
+use nml_tree::TypeExpr;
 
 /// Notes the place where the test is false.
 pub fn unless(found: Option<u32>, good: bool, at: u32) -> Option<u32>
     ensures { result ≡ noted found (places.unless good at) }
 {
     note(found, !good, at)
-}
-
-/// The place of a size.
-pub fn size_place(size: &Size) -> u32
-    ensures { result ≡ spec.size_place size.now }
-{
-    match size {
-        Size::Number(n) => n.at,
-        Size::Name(n) => n.at,
-    }
 }
 
 /// The word or the name that begins a type.
@@ -42,16 +32,6 @@ pub fn type_place(e: &TypeExpr) -> u32
         TypeExpr::Fix(at, _, _, _, _, _) => *at,
         TypeExpr::Float(at, _, _, _, _, _) => *at,
         TypeExpr::Name(n) => n.at,
-    }
-}
-
-/// Whether the number is told, from the least to the most.
-pub fn is_within(least: u32, most: u32, z: Option<i128>) -> bool
-    ensures { result ≡ spec.is_within least most z }
-{
-    match z {
-        None => false,
-        Some(z) => i128::from(least) <= z && z <= i128::from(most),
     }
 }
 

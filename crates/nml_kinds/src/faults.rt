@@ -4,15 +4,15 @@ ghost use Rattle.std.specs.Prelude.{◌≡◌, IfOk};
 ghost use Rattle.nml_tree.specs.Places.{least_of};
 ghost use Rattle.nml_tree.specs.TypeFault.{type_fault_places};
 ghost use Rattle.nml_tree.specs.WidthFault.{width_places};
-ghost use Rattle.nml_kinds.specs.Around.{AreWorths};
+ghost use Rattle.nml_worth.specs.Around.{AreWorths};
 
 use crate::item::item;
 use crate::rule::Given;
 use crate::storage::storages;
-use crate::stub::Worth;
 use nk_base::Memory;
 use nml_known::Names;
 use nml_texts::Widths;
+use nml_worth::Worth;
 use std::alloc::Global;
 
 /// The least place of a fault of kind, and of one of width, each where there is one.

@@ -5,7 +5,7 @@ ghost use Rattle.nml_names.specs.Note.{noted};
 ghost use Rattle.nml_tree.specs.Table.{table};
 ghost use Rattle.nml_tree.specs.TypeFault as kinds;
 ghost use Rattle.nml_tree.specs.WidthFault as widths;
-ghost use Rattle.nml_kinds.specs.Around.{AreWorths};
+ghost use Rattle.nml_worth.specs.Around.{AreWorths};
 ghost use Rattle.nml_kinds.specs.Items as spec;
 
 use crate::alternative::or_rule;

@@ -8,7 +8,6 @@ mod item;
 mod rule;
 mod statement;
 mod storage;
-mod stub;
 mod test;
 mod ty;
 

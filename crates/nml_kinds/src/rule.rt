@@ -11,20 +11,20 @@ ghost use Rattle.nml_tree.specs.Formula.{formula};
 ghost use Rattle.nml_tree.specs.Table.{rule_of, table};
 ghost use Rattle.nml_tree.specs.TypeFault as kinds;
 ghost use Rattle.nml_tree.specs.WidthFault as widths;
-ghost use Rattle.nml_kinds.specs.Around.{AreWorths, around};
+ghost use Rattle.nml_worth.specs.Around.{AreWorths, around};
 ghost use Rattle.nml_kinds.specs.Reads.{IsRead};
 ghost use Rattle.nml_kinds.specs.Statements as spec;
 
 use crate::declared::unless;
 use crate::faults::Faults;
 use crate::statement::{action, name_width};
-use crate::stub::{Scope, Worth, expr};
 use crate::test::is_named_rightly;
 use crate::ty::parameters;
 use nk_base::Memory;
 use nml_known::Names;
 use nml_texts::{Parameters, Which, Widths, is_right};
 use nml_tree::{Attrs, Expr, ModeRule, Name, OpRule, Template};
+use nml_worth::{Scope, Worth, expr};
 use std::alloc::Global;
 
 /// The name that the expression is, where it is a bare one.
@@ -150,7 +150,12 @@ pub fn op_rule(alloc: Global, g: &Given<'_>, r: &OpRule, found: Faults) -> Resul
 }
 
 /// Notes the least faults of an and-rule with a value.
-pub fn mode_rule(alloc: Global, g: &Given<'_>, r: &ModeRule, found: Faults) -> Result<Faults, Memory>
+pub fn mode_rule(
+    alloc: Global,
+    g: &Given<'_>,
+    r: &ModeRule,
+    found: Faults,
+) -> Result<Faults, Memory>
     requires worths { AreWorths g.now.names.now g.now.worths.now }
     requires widths { g.now.widths.now ≡ g.now.names.now }
     ensures kind { IfOk result (λ f. f.kind ≡ noted found.kind (kinds.rule_places (table g.now.names.now) (rule_of r.now.pars (Some (formula r.now.value)) r.now.attrs))) }

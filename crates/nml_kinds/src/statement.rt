@@ -11,17 +11,17 @@ ghost use Rattle.nml_tree.specs.Inside as inside;
 ghost use Rattle.nml_tree.specs.Table.{Declared, declared};
 ghost use Rattle.nml_tree.specs.WidthFault as widths;
 ghost use Rattle.nml_tree.specs.Worth as worth;
-ghost use Rattle.nml_kinds.specs.Around.{around};
-ghost use Rattle.nml_kinds.specs.Shown.{seen_kind, shown_cap};
+ghost use Rattle.nml_worth.specs.Around.{around};
+ghost use Rattle.nml_worth.specs.Shown.{seen_kind, shown_cap};
 ghost use Rattle.nml_kinds.specs.Statements as spec;
 
 use crate::declared::unless;
 use crate::faults::Faults;
-use crate::stub::{Cap, Kind, Scope, expr};
-use crate::test::{is_below, is_named_rightly, is_other, is_part, place_kind};
+use crate::test::{is_below, is_named_rightly, is_part, place_kind};
 use nml_known::Known;
 use nml_names::note;
 use nml_tree::{Action, Expr, Name, Place, Stmt};
+use nml_worth::{Cap, Kind, Scope, expr, is_other};
 
 /// Notes the least faults of an expression that is to be of this kind.
 pub fn operand(s: &Scope<'_>, wanted: Kind, e: &Expr, found: Faults) -> Faults
@@ -60,7 +60,11 @@ fn index_operand(s: &Scope<'_>, n: &Name, i: &Expr, found: Faults) -> Faults
     let seen = expr(s, i, found.kind, found.width);
     let declared = s.names().declared(&n.text);
     Faults {
-        kind: note(seen.kinds, is_other(seen.worth.kind, Kind::Number), seen.start),
+        kind: note(
+            seen.kinds,
+            is_other(seen.worth.kind, Kind::Number),
+            seen.start,
+        ),
         width: index_width(declared, seen.worth.cap, seen.start, seen.widths),
     }
 }

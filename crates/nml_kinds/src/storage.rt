@@ -31,7 +31,11 @@ fn more_cells(cells: u32, size: u128) -> u32
     ensures { result ≡ min (cells + size) 1048577 }
 {
     let room = 1048577 - cells;
-    if size < u128::from(room) { cells + size as u32 } else { 1048577 }
+    if size < u128::from(room) {
+        cells + size as u32
+    } else {
+        1048577
+    }
 }
 
 /// One storage more.
@@ -39,7 +43,11 @@ fn more_storages(storages: u32) -> u32
     requires { storages ≤ 65537 }
     ensures { result ≡ min (storages + 1) 65537 }
 {
-    if storages <= MOST_STORAGES { storages + 1 } else { 65537 }
+    if storages <= MOST_STORAGES {
+        storages + 1
+    } else {
+        65537
+    }
 }
 
 /// Whether the cells become too many.

@@ -7,65 +7,19 @@ ghost use Rattle.nml_tree.specs.Table.{Declared};
 ghost use Rattle.nml_tree.specs.TypeFault as spec;
 ghost use Rattle.nml_tree.specs.WidthFault as widths;
 ghost use Rattle.nml_tree.specs.Worth as worth;
-ghost use Rattle.nml_kinds.specs.Around.{around};
-ghost use Rattle.nml_kinds.specs.Shown.{seen_kind, shown, shown_cap};
+ghost use Rattle.nml_worth.specs.Around.{around};
+ghost use Rattle.nml_worth.specs.Shown.{seen_kind, shown, shown_cap};
 
-use crate::stub::{Cap, Kind, Scope, Worth};
 use nk_base::Text;
 use nml_known::{Known, Parameter};
 use nml_tree::Name;
-
-/// Whether both are known, and differ.
-pub fn is_other(a: Kind, b: Kind) -> bool
-    ensures { result ≡ worth.is_other (seen_kind a) (seen_kind b) }
-{
-    match a {
-        Kind::Number => match b {
-            Kind::Truth => true,
-            Kind::Number => false,
-            Kind::Unknown => false,
-            Kind::Nothing => false,
-        },
-        Kind::Truth => match b {
-            Kind::Number => true,
-            Kind::Truth => false,
-            Kind::Unknown => false,
-            Kind::Nothing => false,
-        },
-        Kind::Unknown => false,
-        Kind::Nothing => false,
-    }
-}
-
-/// The one of the two that is known.
-pub fn known_first(a: Kind, b: Kind) -> Kind
-    ensures { seen_kind result ≡ worth.known_first (seen_kind a) (seen_kind b) }
-{
-    match a {
-        Kind::Number => Kind::Number,
-        Kind::Truth => Kind::Truth,
-        Kind::Unknown => b,
-        Kind::Nothing => b,
-    }
-}
+use nml_worth::{Cap, Kind, Scope, Worth, has_value};
 
 /// The kind of what may be assigned.
 pub fn place_kind(w: Worth) -> Kind
     ensures { (x : worth.Worth) → w ≡ shown x → seen_kind result ≡ spec.place_kind x }
 {
     if w.is_place { w.kind } else { Kind::Unknown }
-}
-
-/// Whether it may stand in an expression.
-fn has_value(k: Kind) -> bool
-    ensures { result ≡ spec.has_value (seen_kind k) }
-{
-    match k {
-        Kind::Number => true,
-        Kind::Truth => true,
-        Kind::Unknown => true,
-        Kind::Nothing => false,
-    }
 }
 
 /// Whether the name may have an index, or be without one.

@@ -8,10 +8,11 @@ ghost use Rattle.nml_tree.specs.Table.{pars_of, size_number, table, type_of};
 ghost use Rattle.nml_tree.specs.TypeFault as spec;
 
 use crate::declared as test;
-use crate::declared::{is_within, size_place, type_place, unless};
+use crate::declared::{type_place, unless};
 use nml_known::Names;
 use nml_names::note;
 use nml_tree::{Par, Pars, PortWord, Size, Storage, TypeExpr};
+use nml_worth::{is_within, size_place};
 
 /// The greatest size.
 const MOST: u32 = 65536;
@@ -20,7 +21,11 @@ const MOST: u32 = 65536;
 pub fn size(names: &Names<'_>, least: u32, n: &Size, found: Option<u32>) -> Option<u32>
     ensures { result ≡ noted found (spec.size_places (table names.now) least n.now) }
 {
-    unless(found, is_within(least, MOST, names.size_number(n)), size_place(n))
+    unless(
+        found,
+        is_within(least, MOST, names.size_number(n)),
+        size_place(n),
+    )
 }
 
 /// Notes the least fault of the type.
@@ -46,15 +51,25 @@ pub fn ty(names: &Names<'_>, e: &TypeExpr, found: Option<u32>) -> Option<u32>
 fn one_size(names: &Names<'_>, at: u32, n: &Size, found: Option<u32>) -> Option<u32>
     ensures { result ≡ noted found (places.unless (spec.has_width (size_number (table names.now) n.now)) at ++ spec.size_places (table names.now) 1 n.now) }
 {
-    size(names, 1, n, unless(found, test::has_width(names.size_number(n)), at))
+    size(
+        names,
+        1,
+        n,
+        unless(found, test::has_width(names.size_number(n)), at),
+    )
 }
 
 /// Notes PC where it has another size or type than it must have.
 pub fn pc(names: &Names<'_>, s: &Storage, found: Option<u32>) -> Option<u32>
     ensures { result ≡ noted found (spec.pc_places (table names.now) s.now) }
 {
-    let right = is_within(1, 1, names.size_number(&s.size)) && test::is_pc_type(names.type_of(&s.ty));
-    note(found, s.name.text.as_bytes() == b"PC".as_slice() && !right, s.name.at)
+    let right = is_within(1, 1, names.size_number(&s.size))
+        && test::is_pc_type(names.type_of(&s.ty));
+    note(
+        found,
+        s.name.text.as_bytes() == b"PC".as_slice() && !right,
+        s.name.at,
+    )
 }
 
 /// Notes the type of an `inp` or an `out` where it may not be one.
@@ -93,7 +108,11 @@ fn parameter(names: &Names<'_>, p: &Par, found: Option<u32>) -> Option<u32>
         return found;
     }
     let found = ty(names, &p.ty, found);
-    unless(found, test::is_field_type(names.type_of(&p.ty)), type_place(&p.ty))
+    unless(
+        found,
+        test::is_field_type(names.type_of(&p.ty)),
+        type_place(&p.ty),
+    )
 }
 
 /// Notes the least fault of further parameters.

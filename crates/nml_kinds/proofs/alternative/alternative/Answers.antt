@@ -1,7 +1,9 @@
-use Rattle.std.proofs.Common.{◌∙◌, sym}
+use Rattle.std.proofs.Common.{◌∙◌, ap, sym}
 use Rattle.nml_tree.specs.Table.{declared, table}
 use Rattle.nml_tree.specs.TypeFault.{is_rule_of}
-use Rattle.nml_kinds.specs.Shown.{seen_kind}
+use Rattle.nml_worth.specs.Shown.{seen_kind}
+use Rattle.nml_tree.specs.Worth.{known_first}
+use Rattle.nml_kinds.proofs.KindLaws.{seen_shown}
 use Rattle.nml_kinds.proofs.Alternatives.{may_be_rule, alternative_rule, alternative_other}
 use Rattle.nml_kinds.proofs.alternative.alternative.Goals as goal
 
@@ -13,7 +15,7 @@ returns-then-is_rule_of c = λ ns.
     let is = sym (c.is_rule_of.ensures d c.declared.ensures) ∙ c.if-is_rule_of.true in
     let b = seen_kind c.args.before.kind in
     alternative_rule t c.args.mode b (seen_kind c.rule_kind-kind.result) (seen_kind c.known_first.result) n ns c.is_other.result c.args.before.found c.note.result
-    is (c.rule_kind-kind.ensures (may_be_rule c.args.mode d is)) c.is_other.ensures c.note.ensures c.known_first.ensures
+    is (c.rule_kind-kind.ensures (may_be_rule c.args.mode d is)) c.is_other.ensures c.note.ensures (ap seen_kind c.known_first.ensures ∙ seen_shown (known_first b (seen_kind c.rule_kind-kind.result)))
 
 pub returns-else-is_rule_of : goal.returns-else-is_rule_of
 returns-else-is_rule_of c = λ ns.

@@ -3,7 +3,7 @@ use Rattle.nml_tree.specs.Table.{table}
 use Rattle.nml_tree.specs.TypeFault.{alternative_places}
 use Rattle.nml_names.specs.Note.{noted}
 use Rattle.nml_kinds.specs.Parts.{alternatives_behind}
-use Rattle.nml_kinds.specs.Shown.{seen_kind}
+use Rattle.nml_worth.specs.Shown.{seen_kind}
 use Rattle.nml_kinds.proofs.alternative.further_alternatives.Given as goal
 
 abbrev pub invariant-loop-n : goal.invariant-loop-n

@@ -1,8 +1,8 @@
 use Rattle.std.proofs.Common.{◌≡◌, ◌∙◌, ap, unwrap_or}
 use Rattle.nml_tree.specs.Table.{table}
 use Rattle.nml_tree.specs.Worth.{rule_worth}
-use Rattle.nml_kinds.specs.Around.{number_or_none}
-use Rattle.nml_kinds.specs.Shown.{seen_kind, shown}
+use Rattle.nml_worth.specs.Around.{number_or_none}
+use Rattle.nml_worth.specs.Shown.{seen_kind, shown}
 use Rattle.nml_kinds.proofs.KindLaws.{seen_shown}
 use Rattle.nml_kinds.proofs.alternative.rule_kind.Goals as goal
 

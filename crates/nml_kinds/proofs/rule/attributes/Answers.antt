@@ -1,7 +1,7 @@
 use Rattle.std.proofs.Common.{◌++◌}
 use Rattle.nml_tree.specs.Block.{action_block}
 use Rattle.nml_tree.specs.Directives.{Syntax, Image, is_right}
-use Rattle.nml_kinds.specs.Around.{around}
+use Rattle.nml_worth.specs.Around.{around}
 use Rattle.nml_kinds.specs.Statements.{text_kinds, block_kinds}
 use Rattle.nml_kinds.proofs.Expressions.{two_noted}
 use Rattle.nml_kinds.proofs.rule.attributes.Goals as goal

@@ -1,7 +1,7 @@
 use Rattle.std.proofs.Common.{◌≡◌, drop}
 use Rattle.nml_tree.specs.Block.{block}
 use Rattle.nml_names.specs.Note.{noted}
-use Rattle.nml_kinds.specs.Around.{around}
+use Rattle.nml_worth.specs.Around.{around}
 use Rattle.nml_kinds.specs.Statements.{block_kinds, block_widths}
 use Rattle.nml_kinds.proofs.statement.+statements.Given as goal
 

@@ -3,7 +3,7 @@ use Rattle.nml_tree.specs.Block as blocks
 use Rattle.nml_tree.specs.Formula.{formula}
 use Rattle.nml_tree.specs.Inside.{inside, as_read}
 use Rattle.nml_tree.specs.WidthFault.{node_widths}
-use Rattle.nml_kinds.specs.Around.{around}
+use Rattle.nml_worth.specs.Around.{around}
 use Rattle.nml_kinds.specs.Statements.{index_widths, widths_inside}
 use Rattle.nml_kinds.proofs.Expressions.{assigned_noted, two_noted}
 use Rattle.nml_kinds.proofs.statement.assigned.Goals as goal

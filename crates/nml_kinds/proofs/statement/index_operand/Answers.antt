@@ -4,7 +4,7 @@ use Rattle.nml_tree.specs.Inside.{inside}
 use Rattle.nml_tree.specs.Table.{declared}
 use Rattle.nml_tree.specs.WidthFault as widths
 use Rattle.nml_tree.specs.Worth as worth
-use Rattle.nml_kinds.specs.Around.{around}
+use Rattle.nml_worth.specs.Around.{around}
 use Rattle.nml_kinds.specs.Statements.{widths_inside}
 use Rattle.nml_kinds.proofs.Expressions.{operand_noted, two_noted}
 use Rattle.nml_kinds.proofs.statement.index_operand.Goals as goal

@@ -1,6 +1,6 @@
 use Rattle.nml_tree.specs.Formula.{formula}
-use Rattle.nml_kinds.specs.Around.{around}
-use Rattle.nml_kinds.specs.Shown.{seen_kind}
+use Rattle.nml_worth.specs.Around.{around}
+use Rattle.nml_worth.specs.Shown.{seen_kind}
 use Rattle.nml_kinds.proofs.Expressions.{operand_noted}
 use Rattle.nml_kinds.proofs.statement.operand.Goals as goal
 
