@@ -7,8 +7,10 @@ ghost use Rattle.nml_tree.specs.Places as places;
 ghost use Rattle.nml_tree.specs.Table.{pars_of, size_number, table, type_of};
 ghost use Rattle.nml_tree.specs.TypeFault as spec;
 
-use crate::declared as test;
-use crate::declared::{type_place, unless};
+use crate::declared::{
+    has_width, have_width, is_field_type, is_pc_type, is_port_type, is_rule, names_type,
+    type_place, unless,
+};
 use nml_known::Names;
 use nml_names::note;
 use nml_tree::{Par, Pars, PortWord, Size, Storage, TypeExpr};
@@ -38,11 +40,11 @@ pub fn ty(names: &Names<'_>, e: &TypeExpr, found: Option<u32>) -> Option<u32>
         TypeExpr::Card(at, _, n, _) => one_size(names, *at, n, found),
         TypeExpr::Int(at, _, n, _) => one_size(names, *at, n, found),
         TypeExpr::Fix(at, _, n, _, m, _) => {
-            let good = test::have_width(names.size_number(n), names.size_number(m));
+            let good = have_width(names.size_number(n), names.size_number(m));
             size(names, 0, m, size(names, 1, n, unless(found, good, *at)))
         }
         TypeExpr::Float(at, _, _, _, _, _) => note(found, true, *at),
-        TypeExpr::Name(n) => unless(found, test::names_type(names.declared(&n.text)), n.at),
+        TypeExpr::Name(n) => unless(found, names_type(names.declared(&n.text)), n.at),
     }
 }
 
@@ -55,7 +57,7 @@ fn one_size(names: &Names<'_>, at: u32, n: &Size, found: Option<u32>) -> Option<
         names,
         1,
         n,
-        unless(found, test::has_width(names.size_number(n)), at),
+        unless(found, has_width(names.size_number(n)), at),
     )
 }
 
@@ -63,8 +65,7 @@ fn one_size(names: &Names<'_>, at: u32, n: &Size, found: Option<u32>) -> Option<
 pub fn pc(names: &Names<'_>, s: &Storage, found: Option<u32>) -> Option<u32>
     ensures { result ≡ noted found (spec.pc_places (table names.now) s.now) }
 {
-    let right = is_within(1, 1, names.size_number(&s.size))
-        && test::is_pc_type(names.type_of(&s.ty));
+    let right = is_within(1, 1, names.size_number(&s.size)) && is_pc_type(names.type_of(&s.ty));
     note(
         found,
         s.name.text.as_bytes() == b"PC".as_slice() && !right,
@@ -86,7 +87,7 @@ pub fn port(names: &Names<'_>, word: PortWord, e: &TypeExpr, found: Option<u32>)
 fn port_type(names: &Names<'_>, e: &TypeExpr, found: Option<u32>) -> Option<u32>
     ensures { result ≡ noted found (places.unless (spec.is_port_type (type_of (table names.now) e.now)) (spec.type_place e.now)) }
 {
-    unless(found, test::is_port_type(names.type_of(e)), type_place(e))
+    unless(found, is_port_type(names.type_of(e)), type_place(e))
 }
 
 /// Whether the type is the name of a rule.
@@ -94,7 +95,7 @@ fn is_part_type(names: &Names<'_>, e: &TypeExpr) -> bool
     ensures { result ≡ spec.is_part_type (table names.now) e.now }
 {
     match e {
-        TypeExpr::Name(n) => test::is_rule(names.declared(&n.text)),
+        TypeExpr::Name(n) => is_rule(names.declared(&n.text)),
         _ => false,
     }
 }
@@ -110,7 +111,7 @@ fn parameter(names: &Names<'_>, p: &Par, found: Option<u32>) -> Option<u32>
     let found = ty(names, &p.ty, found);
     unless(
         found,
-        test::is_field_type(names.type_of(&p.ty)),
+        is_field_type(names.type_of(&p.ty)),
         type_place(&p.ty),
     )
 }
