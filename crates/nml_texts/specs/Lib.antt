@@ -1,0 +1,4 @@
+pub mod Piece
+pub mod Given
+pub mod Widths
+pub mod Around
