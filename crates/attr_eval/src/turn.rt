@@ -99,7 +99,7 @@ pub fn par_count(pars: &Option<Pars>) -> usize
     }
 }
 
-/// The rule that a parameter's type names; `None` exactly where it names none.
+/// The rule that a parameter's type names; `None` exactly where it names none. It takes no memory.
 pub fn part_of<'r>(items: &[Item], ty: &'r TypeExpr) -> Option<&'r Text>
     ensures { MatchOption result ((rule : spec.Text) → parameter_of (entries [] items.now) ty.now ≡ Some (spec.Parameter.Part rule) → ⊥) (λ rule. parameter_of (entries [] items.now) ty.now ≡ Some (spec.Parameter.Part rule.now)) }
 {
@@ -140,7 +140,7 @@ fn is_rule(item: &Item) -> bool
     }
 }
 
-/// The first parameter of the name, and its number; `None` exactly where there is none.
+/// The first parameter of the name, and its number; `None` exactly where there is none. It takes no memory.
 pub fn first_par<'r>(pars: &'r Option<Pars>, name: &[u8]) -> Option<(usize, &'r Par)>
     ensures { MatchOption result (Other name.now (pars_of pars.now) (length (pars_of pars.now))) (λ x. IsFirst name.now (pars_of pars.now) x.0 x.1.now) }
 {

@@ -399,8 +399,10 @@ fn wrapped_into(types: &[Ty], n: usize, value: i128) -> Option<i128>
     }
 }
 
-/// The value wrapped into the type; `None` where the type can't hold it.
-fn wrapped_value(ty: Ty, value: i128) -> Option<i128>
+/// The value wrapped into the type; `None` exactly where a `bool` would be another number than 0 or 1, or the type hasn't 1 to 64 bits.
+///
+/// It takes no memory. The rule is this project's own.
+pub fn wrapped_value(ty: Ty, value: i128) -> Option<i128>
     ensures { MatchOption result (wraps ty value ≡ false) (λ z. (wraps ty value ≡ true) × (z ≡ wrapped ty value) × InRange ty z) }
 {
     match ty {
