@@ -7,3 +7,4 @@ pub mod Agrees
 pub mod Top
 pub mod Ports
 pub mod OutPort
+pub mod Truths

@@ -33,11 +33,11 @@ use Rattle.nml_widths.proofs.Fits.{no_left, no_right, unless_none, when_none}
 use Rattle.attr_exec.specs.Ready.{IsLawful}
 use Rattle.attr_exec.specs.Does.{IsPort, HasPc}
 
-none_from : (xs : List ℕ) → ((at : ℕ) → Contains xs at → ⊥) → xs ≡ []
+pub none_from : (xs : List ℕ) → ((at : ℕ) → Contains xs at → ⊥) → xs ≡ []
 none_from [] h = refl
 none_from (x ∷ xs) h = absurd (h x (0, omega arith, refl))
 
-flat_none : (f : Item → List ℕ) (xs : List Item) (i : Item) → Contains xs i → flat_map f xs ≡ [] → f i ≡ []
+pub flat_none : (f : Item → List ℕ) (xs : List Item) (i : Item) → Contains xs i → flat_map f xs ≡ [] → f i ≡ []
 flat_none f [] i c h = absurd (omega (arith, c.1))
 flat_none f (x ∷ xs) i (zero, low, is) h = subst (λ y. f y ≡ []) is (no_left _ _ h)
 flat_none f (x ∷ xs) i (suc k, low, is) h = flat_none f xs i (k, omega (arith, low), is) (no_right (f x) _ h)
@@ -55,10 +55,10 @@ lookup_text [] e name x h = inr (last_here (text_eq name e.0) e.1 x h)
 lookup_text (a ∷ t) e name x h = last_step (text_eq name a.0) a.1 x (lookup (text_eq name) t) (lookup (text_eq name) (t ++ e ∷ [])) _ (lookup_text t e name x) h
 
 -- what is declared is declared by an item of this name, behind others
-abbrev Placed : List Item → Table → Text → Declared → Type 0
+abbrev pub Placed : List Item → Table → Text → Declared → Type 0
 Placed items t name x = (u : Table) × (i : Item) × (rest : List Item) × (entries t items ≡ entries (u ++ entry u i ∷ []) rest) × Contains items i × ((entry u i).1 ≡ x) × (text_eq name (entry u i).0 ≡ true)
 
-placed : (items : List Item) (t : Table) (name : Text) (x : Declared) → declared (entries t items) name ≡ Some x → (declared t name ≡ Some x) ⊎ Placed items t name x
+pub placed : (items : List Item) (t : Table) (name : Text) (x : Declared) → declared (entries t items) name ≡ Some x → (declared t name ≡ Some x) ⊎ Placed items t name x
 placed [] t name x h = inl h
 placed (i ∷ items) t name x h =
     elim (placed items (t ++ entry t i ∷ []) name x h) [
