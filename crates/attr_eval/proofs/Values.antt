@@ -157,7 +157,7 @@ pub argument_is : (t : Table) (scope : written.Scope) (zs : List ℤ) (name : Te
 argument_is t scope zs name i o r is e = e ∙ ap (λ x. value (alone zs) (named x (declared t name) i)) (sym is)
 
 -- widths and runs of bits
-told : (b : Bool) (w : Worth) (z : ℤ) → Within (as_number (if b then w else unknown)).cap z → b ≡ true
+pub told : (b : Bool) (w : Worth) (z : ℤ) → Within (as_number (if b then w else unknown)).cap z → b ≡ true
 told true w z h = refl
 told false w z h = absurd h
 

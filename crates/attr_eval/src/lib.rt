@@ -12,10 +12,10 @@ mod value;
 mod word;
 
 pub use laws::legal_by_pairs;
-pub use operate::{binary, unary};
+pub use operate::{binary, is_zero, truth, unary};
 pub use shape::{Node, top};
 pub use skip::skip_pars;
 pub use text::syntax;
 pub use turn::{Made, Turn, first_par, first_turn, part_of};
-pub use value::{mode_value, worth};
+pub use value::{mode_value, size_bits, worth};
 pub use word::image;

@@ -170,8 +170,8 @@ fn item_number(item: &Item) -> i128
     }
 }
 
-/// A number of bits, 126 at most.
-fn size_bits(items: &[Item], size: &Size) -> u32
+/// A number of bits, where it is 126 at most; what is answered for a greater one is left open. It takes no memory.
+pub fn size_bits(items: &[Item], size: &Size) -> u32
     ensures { size_or_none (entries [] items.now) size.now ≤ 126 → result ≡ size_or_none (entries [] items.now) size.now }
 {
     let n = natural_size(items, size);

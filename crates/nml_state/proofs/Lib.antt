@@ -1,3 +1,4 @@
 pub mod Lookups
 pub mod StateLaws
 pub mod StateSeen
+pub mod WrappingLaws

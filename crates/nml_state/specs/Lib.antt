@@ -3,3 +3,4 @@ pub mod RightTypes
 pub mod Cells
 pub mod IsState
 pub mod SeenWrites
+pub mod Wrapping

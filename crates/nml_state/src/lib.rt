@@ -5,4 +5,4 @@ mod lookup;
 mod state;
 
 pub use lookup::{find, natural_size, type_value};
-pub use state::{Exec, State};
+pub use state::{Exec, State, wrapped_value};

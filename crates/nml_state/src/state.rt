@@ -1,17 +1,20 @@
 //! The state of a machine.
 
-ghost use Rattle.std.specs.Prelude.{◌≡◌, ◌<◌, ◌+◌, [], ◌∷◌, ◌++◌, true, false, length, map, replicate, OnOk, slice_get, slice_set, unwrap_or, IfOk, pos, Some};
+ghost use Rattle.std.specs.Prelude.{◌≡◌, ◌<◌, ◌==◌, ◌&&◌, ◌+◌, ℕ, [], ◌∷◌, ◌++◌, true, false, length, map, replicate, OnOk, slice_get, slice_set, unwrap_or, IfOk, MatchOption, pos, Some};
+ghost use Rattle.std.specs.List.{list_any};
+ghost use Rattle.nk_base.specs.Number.{InRange, wrapped};
 ghost use Rattle.nml_state.specs.Cells.{HasCell, IsOf, is_kept, opened, sizes};
+ghost use Rattle.nml_state.specs.Wrapping.{given_cell, given_trn, has_cell, offered, type_at, wraps, wraps_into};
 ghost use Rattle.nml_tree.specs.Exec.{trn_types, with_write, with_writes};
 ghost use Rattle.nml_state.specs.IsState.{AllExist, AreParts};
 ghost use Rattle.nml_state.specs.RightTypes.{EachRight, ItemRight};
 ghost use Rattle.nml_tree.specs.Worth.{is_type};
 ghost use Rattle.nml_state.specs.SeenWrites.{seen_cells, seen_writes};
 ghost use Rattle.nml_tree.specs.Table.{entries, entry, port_of, size_or_none, table, type_or_none};
-ghost use Rattle.nml_tree.specs.Value.{cell};
+ghost use Rattle.nml_tree.specs.Value.{cell, number_at};
 
 use crate::lookup::{natural_size, type_value};
-use nk_base::{Memory, Ty};
+use nk_base::{Memory, Ty, wrap};
 use nml_tree::{Desc, Item, Port, PortWord, Storage, Typed};
 use std::alloc::Global;
 use std::marker::Model;
@@ -19,8 +22,8 @@ use std::marker::Model;
 /// A write that is kept for the end of an instruction.
 #[derive(Clone, Copy)]
 struct Write {
-    storage: u32,
-    index: u32,
+    storage: usize,
+    index: usize,
     value: i128,
 }
 
@@ -114,8 +117,8 @@ impl State {
         write_one(
             &mut self.cells,
             Write {
-                storage,
-                index,
+                storage: storage as usize,
+                index: index as usize,
                 value,
             },
         );
@@ -147,10 +150,94 @@ impl State {
         ensures { self.new ≡ record self.old { kept = self.old.kept ++ record { storage = storage; index = index; value = value } ∷ [] } }
     {
         self.kept.push_reserved(Write {
+            storage: storage as usize,
+            index: index as usize,
+            value,
+        });
+    }
+
+    /// Keeps a write for the end of the instruction, its value wrapped into the storage's type, where there is such a cell, no write of it
+    /// is kept, and a `bool` gets 0 or 1; elsewhere it does nothing.
+    ///
+    /// It takes no memory. That a second write is left out is this project's own rule.
+    pub fn offer(&mut self, storage: usize, index: u128, value: i128)
+        ensures { self.new ≡ offered self.old storage index value }
+    {
+        let Some(value) = wrapped_into(&self.types, storage, value) else {
+            return;
+        };
+        let Some(index) = cell_at(&self.cells, storage, index) else {
+            return;
+        };
+        if write_is_kept(&self.kept, storage, index) {
+            return;
+        }
+        self.kept.push_reserved(Write {
             storage,
             index,
             value,
         });
+    }
+
+    /// Gives the transitory the value, wrapped into its type; where there is none, or a `bool` would get another number than 0 or 1, it does
+    /// nothing. It takes no memory.
+    pub fn give_trn(&mut self, n: usize, value: i128)
+        ensures { self.new ≡ given_trn self.old n value }
+    {
+        let Some(value) = wrapped_into(&self.trn_types, n, value) else {
+            return;
+        };
+        put_at(&mut self.trns, n, value);
+    }
+
+    /// Gives the storage's first cell the value at once, wrapped into its type; where there is none, or a `bool` would get another number
+    /// than 0 or 1, it does nothing. It takes no memory.
+    pub fn give_cell(&mut self, storage: usize, value: i128)
+        ensures { self.new ≡ given_cell self.old storage value }
+    {
+        let Some(value) = wrapped_into(&self.types, storage, value) else {
+            return;
+        };
+        let Some(index) = cell_at(&self.cells, storage, 0) else {
+            return;
+        };
+        write_one(
+            &mut self.cells,
+            Write {
+                storage,
+                index,
+                value,
+            },
+        );
+    }
+
+    /// What the cell of the storage holds; 0 where there is none. It takes no memory.
+    pub fn read(&self, storage: usize, index: u128) -> i128
+        ensures { result ≡ cell self.now.cells storage index }
+    {
+        cell_or_zero(&self.cells, storage, index)
+    }
+
+    /// What the transitory of this number holds; 0 where there is none. It takes no memory.
+    pub fn read_trn(&self, n: usize) -> i128
+        ensures { result ≡ number_at self.now.trns n }
+    {
+        number_or_zero(self.trns.as_slice(), n as u128)
+    }
+
+    /// Whether a write of the storage is kept. It takes no memory.
+    pub fn keeps(&self, storage: usize) -> bool
+        ensures { result ≡ list_any (λ w. w.storage == storage) self.now.kept }
+    {
+        is_written(&self.kept, storage)
+    }
+
+    /// Each cell and each transitory holds a value of its type, 0 being held where there is none. It says so, and does nothing.
+    pub fn values_fit(&self)
+        ensures cells { (n i : ℕ) (ty : Ty) → slice_get self.now.types n ≡ Some ty → InRange ty (cell self.now.cells n i) }
+        ensures trns { (n : ℕ) (ty : Ty) → slice_get self.now.trn_types n ≡ Some ty → InRange ty (number_at self.now.trns n) }
+    {
+        let _ = &self.types;
     }
 
     /// Makes all kept writes, keeps none from then on, and sets each transitory to 0. It takes no memory.
@@ -283,11 +370,7 @@ fn write_one(cells: &mut Vec<Vec<i128>>, write: Write)
     requires { HasCell (seen_cells cells.old.items) write.storage write.index }
     ensures { seen_cells cells.new.items ≡ with_write (seen_cells cells.old.items) (record { storage = write.storage; index = write.index; value = write.value }) }
 {
-    put(
-        &mut cells[write.storage as usize],
-        write.index as usize,
-        write.value,
-    );
+    put(&mut cells[write.storage], write.index, write.value);
 }
 
 fn put(row: &mut Vec<i128>, index: usize, value: i128)
@@ -304,6 +387,98 @@ fn clear_all(numbers: &mut Vec<i128>)
     for i in 0..numbers.len() {
         put(numbers, i, 0);
     }
+}
+
+/// The value wrapped into the type of this number; `None` where there is no such type or it can't hold it.
+fn wrapped_into(types: &[Ty], n: usize, value: i128) -> Option<i128>
+    ensures { MatchOption result (wraps_into (slice_get types.now n) value ≡ false) (λ z. (wraps_into (slice_get types.now n) value ≡ true) × (z ≡ wrapped (type_at types.now n) value) × IsOf types.now n z) }
+{
+    match types.get(n) {
+        None => None,
+        Some(ty) => wrapped_value(*ty, value),
+    }
+}
+
+/// The value wrapped into the type; `None` exactly where a `bool` would be another number than 0 or 1, or the type hasn't 1 to 64 bits.
+///
+/// It takes no memory. The rule is this project's own.
+pub fn wrapped_value(ty: Ty, value: i128) -> Option<i128>
+    ensures { MatchOption result (wraps ty value ≡ false) (λ z. (wraps ty value ≡ true) × (z ≡ wrapped ty value) × InRange ty z) }
+{
+    match ty {
+        Ty::Bool => {
+            if 0 <= value && value <= 1 {
+                Some(value)
+            } else {
+                None
+            }
+        }
+        Ty::Card(n) => {
+            if 1 <= n && n <= 64 {
+                Some(wrap(Ty::Card(n), value))
+            } else {
+                None
+            }
+        }
+        Ty::Int(n) => {
+            if 1 <= n && n <= 64 {
+                Some(wrap(Ty::Int(n), value))
+            } else {
+                None
+            }
+        }
+    }
+}
+
+/// The cell's number; `None` where the storage has no such cell.
+fn cell_at(cells: &[Vec<i128>], storage: usize, index: u128) -> Option<usize>
+    ensures { MatchOption result (has_cell (seen_cells cells.now) storage index ≡ false) (λ n. (has_cell (seen_cells cells.now) storage n ≡ true) × (n ≡ index)) }
+{
+    if storage < cells.len() && index < cells[storage].len() as u128 {
+        Some(index as usize)
+    } else {
+        None
+    }
+}
+
+fn write_is_kept(kept: &[Write], storage: usize, index: usize) -> bool
+    ensures { result ≡ list_any (λ w. (w.storage == storage) && (w.index == index)) kept.now }
+{
+    kept.iter()
+        .any(|w| w.storage == storage && w.index == index)
+}
+
+fn is_written(kept: &[Write], storage: usize) -> bool
+    ensures { result ≡ list_any (λ w. w.storage == storage) kept.now }
+{
+    kept.iter().any(|w| w.storage == storage)
+}
+
+fn cell_or_zero(cells: &[Vec<i128>], storage: usize, index: u128) -> i128
+    ensures { result ≡ cell (seen_cells cells.now) storage index }
+{
+    if storage < cells.len() {
+        number_or_zero(cells[storage].as_slice(), index)
+    } else {
+        0
+    }
+}
+
+fn number_or_zero(row: &[i128], index: u128) -> i128
+    ensures { result ≡ number_at row.now index }
+{
+    if index < row.len() as u128 {
+        row[index as usize]
+    } else {
+        0
+    }
+}
+
+fn put_at(numbers: &mut Vec<i128>, n: usize, value: i128)
+    requires { n < length numbers.old.items }
+    ensures { numbers.new.items ≡ slice_set numbers.old.items n value }
+{
+    numbers[n] = value;
 }
 
 /// What an instruction did to the world.

@@ -1,0 +1,10 @@
+pub mod Reading
+pub mod Counting
+pub mod Running
+pub mod Lawful
+pub mod Statements
+pub mod Agrees
+pub mod Top
+pub mod Ports
+pub mod OutPort
+pub mod Truths

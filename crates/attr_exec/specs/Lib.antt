@@ -1,0 +1,5 @@
+pub mod Seen
+pub mod Ran
+pub mod Ready
+pub mod Suits
+pub mod Does

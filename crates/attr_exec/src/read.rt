@@ -1,0 +1,180 @@
+//! The value of an expression of a derivation, where the state and the next input are read.
+
+ghost use Rattle.std.specs.Prelude.{◌≡◌, ◌≤◌, [], ℕ, ℤ, List, Some};
+ghost use Rattle.attr_eval.specs.Walks.{Walks, WalksAll};
+ghost use Rattle.attr_exec.specs.Seen.{IsIndex, Stands, seen, view};
+ghost use Rattle.nml_tree.specs.Act.{Term};
+ghost use Rattle.nml_tree.specs.Derivation.{Derivation, Arguments};
+ghost use Rattle.nml_tree.specs.Formula.{formula};
+ghost use Rattle.nml_tree.specs.Table.{Rule, declared, entries, entry, pars_of};
+ghost use Rattle.nml_tree.specs.Worth.{rule_scope};
+ghost use Rattle.nml_tree.specs.Written.{arguments, reference, source, term, written};
+ghost use Rattle.nml_widths.specs.Fitting.{Everywhere, Sound};
+
+use crate::count::{count_storages, count_trns};
+use crate::look::{
+    Seen, behind, cell_seen, first_field, input_seen, number, one, out_seen, trn_seen, two,
+};
+use attr_eval::{
+    Node, Turn, first_par, first_turn, is_zero, part_of, size_bits, skip_pars, top, truth,
+};
+use nml_state::{State, find};
+use nml_tree::{Expr, Item, Pars, PortWord, Un};
+
+/// What is read of the mode whose derivation stands in front.
+#[cycle(read)]
+pub fn mode_seen(
+    items: &[Item],
+    s: &State,
+    next: Option<i64>,
+    name: &[u8],
+    picks: &[u32],
+    fields: &[i128],
+    limit: usize,
+) -> Seen
+    ensures { (x : Derivation) (ks : List ℕ) (ys : List ℤ) (n : ℕ) (zs : List ℤ) → Walks (entries [] items.now) name.now limit x picks.now fields.now ks ys → Stands (entries [] items.now) n (view zs s.now next) fields.now → result ≡ seen (view zs s.now next) (written (entries [] items.now) n x).value }
+{
+    if limit == 0 {
+        return number(0);
+    }
+    match first_turn(items, name, picks) {
+        Turn::Nothing => number(0),
+        Turn::Picked(chosen, rest) => {
+            mode_seen(items, s, next, chosen.as_bytes(), rest, fields, limit - 1)
+        }
+        Turn::Made(rule) => match rule.value {
+            None => number(0),
+            Some(e) => worth(items, s, next, rule.pars, e, picks, fields, limit - 1),
+        },
+    }
+}
+
+/// What is read of an expression of a rule with these parameters, whose arguments stand in front.
+#[cycle(read)]
+pub fn worth(
+    items: &[Item],
+    s: &State,
+    next: Option<i64>,
+    pars: &Option<Pars>,
+    e: &Expr,
+    picks: &[u32],
+    fields: &[i128],
+    limit: usize,
+) -> Seen
+    ensures { (args : Arguments) (ks : List ℕ) (ys : List ℤ) (n : ℕ) (zs : List ℤ) (rule : Rule) → WalksAll (entries [] items.now) (pars_of pars.now) limit args picks.now fields.now ks ys → Stands (entries [] items.now) n (view zs s.now next) fields.now → Everywhere (Sound (rule_scope (entries [] items.now) rule) (arguments (entries [] items.now) n args) (view zs s.now next)) (formula e.now) → result ≡ seen (view zs s.now next) (term (entries [] items.now) (arguments (entries [] items.now) n args) (formula e.now)) }
+{
+    match top(e) {
+        Node::Numeral(k) => number(k as i128),
+        Node::Truth(b) => number(truth(b)),
+        Node::Named(name) => {
+            let text = name.text.as_bytes();
+            named(items, s, next, pars, text, number(0), picks, fields, limit)
+        }
+        Node::Indexed(name, i) => {
+            let index = worth(items, s, next, pars, i, picks, fields, limit);
+            let text = name.text.as_bytes();
+            named(items, s, next, pars, text, index, picks, fields, limit)
+        }
+        Node::Paren(x) => worth(items, s, next, pars, x, picks, fields, limit),
+        Node::Int(n, x) => {
+            let a = worth(items, s, next, pars, x, picks, fields, limit);
+            one(Un::Int(size_bits(items, n)), a)
+        }
+        Node::Card(n, x) => {
+            let a = worth(items, s, next, pars, x, picks, fields, limit);
+            one(Un::Card(size_bits(items, n)), a)
+        }
+        Node::Sat(n, x) => {
+            let a = worth(items, s, next, pars, x, picks, fields, limit);
+            one(Un::Sat(size_bits(items, n)), a)
+        }
+        Node::Bits(x, hi, lo) => {
+            let a = worth(items, s, next, pars, x, picks, fields, limit);
+            one(Un::Bits(size_bits(items, hi), size_bits(items, lo)), a)
+        }
+        Node::Choose(c, x, y) => {
+            let test = worth(items, s, next, pars, c, picks, fields, limit);
+            if is_zero(test.value) {
+                behind(test, worth(items, s, next, pars, y, picks, fields, limit))
+            } else {
+                behind(test, worth(items, s, next, pars, x, picks, fields, limit))
+            }
+        }
+        Node::Neg(x) => one(
+            Un::Neg,
+            worth(items, s, next, pars, x, picks, fields, limit),
+        ),
+        Node::Inv(x) => one(
+            Un::Inv,
+            worth(items, s, next, pars, x, picks, fields, limit),
+        ),
+        Node::Not(x) => one(
+            Un::Not,
+            worth(items, s, next, pars, x, picks, fields, limit),
+        ),
+        Node::Binary(op, x, y) => {
+            let a = worth(items, s, next, pars, x, picks, fields, limit);
+            let b = worth(items, s, next, pars, y, picks, fields, limit);
+            two(op, a, b)
+        }
+    }
+}
+
+/// What is read of a name with this index: of a parameter, or else of what is declared.
+#[cycle(read)]
+pub fn named(
+    items: &[Item],
+    s: &State,
+    next: Option<i64>,
+    pars: &Option<Pars>,
+    name: &[u8],
+    index: Seen,
+    picks: &[u32],
+    fields: &[i128],
+    limit: usize,
+) -> Seen
+    ensures { (args : Arguments) (ks : List ℕ) (ys : List ℤ) (n : ℕ) (zs : List ℤ) (i : Term) → WalksAll (entries [] items.now) (pars_of pars.now) limit args picks.now fields.now ks ys → Stands (entries [] items.now) n (view zs s.now next) fields.now → IsIndex (view zs s.now next) index i → result ≡ seen (view zs s.now next) (reference (entries [] items.now) (arguments (entries [] items.now) n args) name.now i) }
+{
+    match first_par(pars, name) {
+        None => declared_seen(items, s, next, name, index),
+        Some((k, par)) => {
+            let (p, f) = skip_pars(items, pars, k, picks, fields, limit);
+            match part_of(items, &par.ty) {
+                Some(rule) => mode_seen(items, s, next, rule.as_bytes(), p, f, limit),
+                None => first_field(f),
+            }
+        }
+    }
+}
+
+/// What is read of a declared name with this index.
+fn declared_seen(items: &[Item], s: &State, next: Option<i64>, name: &[u8], index: Seen) -> Seen
+    ensures { (zs : List ℤ) (i : Term) → IsIndex (view zs s.now next) index i → result ≡ seen (view zs s.now next) (source (declared (entries [] items.now) name.now) i) }
+{
+    match find(items, name) {
+        None => number(0),
+        Some((before, item)) => item_seen(before, item, s, next, index),
+    }
+}
+
+/// What is read of what an item behind others declares.
+fn item_seen(before: &[Item], item: &Item, s: &State, next: Option<i64>, index: Seen) -> Seen
+    ensures { (zs : List ℤ) (i : Term) → IsIndex (view zs s.now next) index i → result ≡ seen (view zs s.now next) (source (Some (entry (entries [] before.now) item.now).1) i) }
+{
+    match item {
+        Item::Let(_, _, _, minus, n) => match minus {
+            None => number(n.value as i128),
+            Some(_) => number(-(n.value as i128)),
+        },
+        Item::Type(_, _, _, _) => number(0),
+        Item::Storage(_) => cell_seen(s, count_storages(before), index),
+        Item::Port(port) => match port.word {
+            PortWord::Trn(_) => trn_seen(s, count_trns(before)),
+            PortWord::Inp(_) => input_seen(next),
+            PortWord::Out(_) => out_seen(),
+        },
+        Item::OrRule(_) => number(0),
+        Item::OpRule(_) => number(0),
+        Item::ModeRule(_) => number(0),
+    }
+}

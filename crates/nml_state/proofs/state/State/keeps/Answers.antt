@@ -1,0 +1,18 @@
+use Rattle.std.proofs.Common.{rules, ◌≡◌, ◌∙◌, sym, ap, subst, arith, ◌<◌, ◌==◌, ◌≤◌, [], ◌∷◌, ◌++◌, false, true, length, map, pos, Some, ℕ, ℤ, List, refl, to_z, of_z}
+use Rattle.std.specs.Prelude.{slice_get, slice_set, unwrap_or, FitsSigned, ◌&&◌}
+use Rattle.std.specs.List.{list_any}
+use Rattle.std.specs.Int.{w128}
+use Rattle.std.proofs.lemmas.Int.{to_z-of_z}
+use Rattle.nk_base.specs.Number.{wrapped}
+use Rattle.nml_tree.specs.Exec.{with_write}
+use Rattle.nml_state.specs.Cells.{Shown, HasCell, IsOf, IsAmong, is_kept, is_write_of, sizes}
+use Rattle.nml_state.specs.IsState.{IsState}
+use Rattle.nml_state.specs.SeenWrites.{seen_cells, seen_writes}
+use Rattle.nml_state.specs.Wrapping.{has_cell, wraps_into, type_at, offered, given_trn, given_cell}
+use Rattle.nml_state.proofs.StateLaws.{has_room, state_push, state_write, state_trn}
+use Rattle.nml_state.proofs.StateSeen.{seen_length, seen_push}
+use Rattle.nml_state.proofs.WrappingLaws.{has_among, cells_fit, trns_fit, trn_exists, any_seen, offered_kept, offered_twice, offered_nowhere, offered_unwrapped, given_at_once, given_nowhere, given_now, wrapped_found}
+use Rattle.nml_state.proofs.state.State.keeps.Goals as goal
+
+pub returns : goal.returns
+returns c = rw (← c.self.view_is) (c.is_written.ensures ∙ ap (λ ws. list_any (λ w. w.storage == c.args.storage) ws) c.deref.ensures.value ∙ any_seen (λ w. w.storage == c.args.storage) c.self.inside.kept.items)
