@@ -27,3 +27,4 @@ pub mod Inside
 pub mod OneReading
 pub mod SomeReading
 pub mod SampleBytes
+pub mod Looping
