@@ -1,5 +1,5 @@
 -- How the steps of a command are put together: the first files lead to what the rest comes to.
-use Rattle.std.proofs.Common.{◌≡◌, ◌⊎◌, inl, inr, ℕ, List, [], ◌∷◌, ◌++◌, None, Result, Ok, Err, refl, sym, ap, subst, append_assoc}
+use Rattle.std.proofs.Common.{Some, ◌≡◌, ◌⊎◌, inl, inr, ℕ, List, [], ◌∷◌, ◌++◌, None, Result, Ok, Err, refl, sym, ap, subst, append_assoc}
 use Rattle.plain_tree.specs.Description.{Description}
 use Rattle.image_file.specs.Seen.{picture_of}
 use Rattle.image_file.specs.declared.image.Image.{Image}
@@ -90,7 +90,7 @@ pub assembled_text : (b : Store) (s i bytes : List ℕ) (d : Description) (text 
     → Settles b b [] (AssemblesTo s i bytes d text) (settled i r)
 assembled_text b s i bytes d text (Ok all) z =
     here b [] _ _ (inl (Words z.fit z.words z.assembles refl
-    (λ j. record { file = z.made_of.file_is i j; reply = assembled (z.made_of.width_is j) (z.made_of.words_are j) })))
+    (λ j. record { file = Some (z.made_of.file_is i j); reply = assembled (z.made_of.width_is j) (z.made_of.words_are j) })))
 assembled_text b s i bytes d text (Err e) (inl wants) = here b [] _ _ (inr (ap telling wants))
 assembled_text b s i bytes d text (Err e) (inr (inl z)) = here b [] _ _ (inl (NotPlain z.other (record { last = refl; is = ap telling z.is })))
 assembled_text b s i bytes d text (Err e) (inr (inr z)) = here b [] _ _ (inl (NoMatch z.fit z.line z.fails (record { last = refl; is = ap telling z.is })))

@@ -68,13 +68,13 @@ sound None xs w e = ends_sound _ xs w e
 sound (Some (Asm d s i)) xs w g =
     opens_sound d _ xs w
     (λ bytes more. accepts_sound d bytes _ more w
-    (λ tree. simplifies_sound _ d tree _ more w
+    (λ tree. simplifies_sound d tree _ more w
     (λ p. opens_sound s _ more w (λ text rest. text_sound s i bytes p text rest w))))
     g
 sound (Some (Run d i x n)) xs w g =
     opens_sound d _ xs w
     (λ bytes more. accepts_sound d bytes _ more w
-    (λ tree. simplifies_sound _ d tree _ more w
+    (λ tree. simplifies_sound d tree _ more w
     (λ p. opens_sound i _ more w
     (λ bits rest. loads_sound i bytes p bits _ rest w
     (λ words. opens_sound x _ rest w (λ text last. runs_sound x n p words text last w))))))

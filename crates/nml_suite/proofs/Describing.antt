@@ -5,7 +5,7 @@ use Rattle.nml_tree.specs.declared.tree.Desc.{Desc}
 use Rattle.nml_tree.specs.declared.fault.DescFault.{DescFault}
 use Rattle.nml_tree.specs.declared.fault.DescFault.TheVariants as faults
 use Rattle.nml_tree.specs.Refused.{IsTyped, IsUntyped}
-use Rattle.nml_read.specs.ReadFault.{IsReadFault}
+use Rattle.nml_grammar.specs.Trees.{IsReadFault}
 use Rattle.nml_suite.specs.Described.{Spells, HasFault, NoTokens, NoTree, Floating, Refused, is_memory}
 use Rattle.nml_suite.specs.Reply.{Reply, starved, description_fault}
 use Rattle.nml_suite.specs.Refusing.{IsDescribed, IsReadAs, IsTypedAs, IsRefusedTree, IsFaulty, IsDescribedBy, refused}

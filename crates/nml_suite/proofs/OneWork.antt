@@ -118,14 +118,14 @@ comes_one answers None xs ys w v a b x y = both_end _ _ xs ys w v refl x y
 comes_one answers (Some (Asm d s i)) xs ys w v a b x y =
     opens_one answers 0 d _ _ xs ys w v a b
     (λ bytes more other c e. accepts_one d bytes _ _ more other w v
-    (λ tree k. simplifies_one _ d tree _ _ more other w v
+    (λ tree k. simplifies_one d tree _ _ more other w v
     (λ p plain. opens_one answers 1 s _ _ more other w v c e
     (λ text rest last f g. text_one s i bytes p text rest last w v (λ ts m n j l. same_word p ts m n plain j l)))))
     x y
 comes_one answers (Some (Run d i x n)) xs ys w v a b f g =
     opens_one answers 0 d _ _ xs ys w v a b
     (λ bytes more other c e. accepts_one d bytes _ _ more other w v
-    (λ tree k. simplifies_one _ d tree _ _ more other w v
+    (λ tree k. simplifies_one d tree _ _ more other w v
     (λ p plain. opens_one answers 1 i _ _ more other w v c e
     (λ bits rest last h j. loads_one i bytes p bits _ _ rest last w v plain
     (λ words. opens_one answers 2 x _ _ rest last w v h j

@@ -92,12 +92,12 @@ comes answers None all = ends answers 0 _
 comes answers (Some (Asm d s i)) all =
     opens answers 0 d _ all
     (λ bytes. accepts answers 1 d bytes _
-    (λ tree. simplifies answers 1 _ d tree _
+    (λ tree. simplifies answers 1 d tree _
     (λ p built. opens answers 1 s _ all (λ text. text_by answers 2 s i bytes p text (is_fit p text) refl))))
 comes answers (Some (Run d i x n)) all =
     opens answers 0 d _ all
     (λ bytes. accepts answers 1 d bytes _
-    (λ tree. simplifies answers 1 _ d tree _
+    (λ tree. simplifies answers 1 d tree _
     (λ p built. opens answers 1 i _ all
     (λ bits. loads answers 2 i bytes p bits _
     (λ words. opens answers 2 x _ all (λ text. runs_by answers 3 x n p words text (first_input 1 (lines text)) refl (has_outcome p words n (beginning p) built.plain.plain)))))))
