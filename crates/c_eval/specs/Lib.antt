@@ -1,0 +1,4 @@
+pub mod Stands
+pub mod Filled
+pub mod Evaluates
+pub mod Running
