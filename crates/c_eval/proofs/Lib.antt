@@ -1,3 +1,5 @@
 mod Stacks
 mod Nodes
 mod Runs
+mod LaidOut
+mod Cells

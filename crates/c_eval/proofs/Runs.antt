@@ -24,6 +24,13 @@ lines_more xs ys = flat_map-append line xs ys
 lines_one : (xs : List ℤ) (z : ℤ) → lines (xs ++ z ∷ []) ≡ lines xs ++ line z
 lines_one xs z = lines_more xs (z ∷ []) ∙ ap (λ l. lines xs ++ l) (append-nil (line z))
 
+took_nothing : (now : Option (List ℕ)) → Took now now []
+took_nothing None = tt
+took_nothing (Some xs) = sym (append-nil xs)
+
+pub nothing_taken : (now : Option (List ℕ)) (bytes : List ℕ) → TookFront now now bytes
+nothing_taken now bytes = ([], (bytes, refl), took_nothing now)
+
 module _ (p : Program) (c : Code) (input : List ℤ) where
   abbrev config : Machine → List ℤ → Config p c.bits
   config m out = config_of p c.bits c.nodes.items input m out
@@ -98,10 +105,6 @@ module _ (p : Program) (c : Code) (input : List ℤ) where
   stops o most start now old new stop r is =
       let f : o ≡ stopped stop (state_of input new r.out) = on_step o (config old r.out) (Stops stop (state_of input new r.out)) r.follows (is r.out) in
       (ap (λ o. o.stop) f, subst (λ out. Took start now (lines out)) (sym (ap (λ o. o.out) f)) r.took)
-
-  took_nothing : (now : Option (List ℕ)) → Took now now []
-  took_nothing None = tt
-  took_nothing (Some xs) = sym (append-nil xs)
 
   -- within so many steps a run that pays so many turns stops
   abbrev pub most : ℕ → ℕ

@@ -11,9 +11,11 @@ mod onward;
 mod pass;
 mod run;
 mod sort;
+mod start;
 mod step;
 mod task;
 
 pub use code::{Code, Entry};
 pub use machine::Machine;
+pub use run::eval;
 pub use task::{Expects, Moved, Pending, Repeat, Task};

@@ -15,6 +15,7 @@ ghost use Rattle.c_eval.specs.Running.{Running, Advanced};
 
 use crate::code::Code;
 use crate::machine::Machine;
+use crate::start::start;
 use crate::task::Moved;
 use c_tree::CProg;
 use nk_base::dec_into;
@@ -88,8 +89,29 @@ fn run<S: Sink>(
 {
     let _ = p;
     loop {
-        if let Some(stop) = advance(alloc, code, machine, input, sink)? {
-            return Ok(stop);
+        match advance(alloc, code, machine, input, sink)? {
+            None => {}
+            Some(stop) => return Ok(stop),
         }
     }
+}
+
+/// Runs an accepted program on an input, where it pays so many turns at most: puts each output as a decimal line as it
+/// arises, and answers how the run stopped.
+///
+/// It has come to its end, has met a trap, reads the input where nothing is left of that, or would pay more turns. It is
+/// broken off where a put fails or memory is wanted; the sink has then taken a front of the run's lines. Want of memory may
+/// come at any growth. That each line is one put is this project's own rule.
+pub fn eval<S: Sink>(
+    alloc: Global,
+    p: &CProg,
+    input: &[i64],
+    turns: u64,
+    sink: &mut S,
+) -> Result<Stop, EvalFault>
+    ensures run { Evaluates (outcome (resolved p.now.0) p.now.1 input.now turns) (S.taken sink.old) (S.taken sink.new) result }
+    ensures counts { CountsRun (S.faults sink.old) (S.faults sink.new) result }
+{
+    let (code, mut machine) = start(alloc, p, turns)?;
+    run(alloc, p, &code, &mut machine, input, sink)
 }
