@@ -3,13 +3,13 @@ use Rattle.std.proofs.Common.{◌≡◌, refl, sym, ap, ◌∙◌, subst, ℕ, z
 use Rattle.std.specs.Prelude.{slice_get, if◌then◌else◌, cond}
 use Rattle.std.specs.List.{filter, flat_map}
 use Rattle.std.proofs.lemmas.List.{length-take, length-replicate}
-use Rattle.c_tree.specs.Program.{Command, Skip, Function, GlobalVariable, Program, size, sizes}
+use Rattle.c_tree.specs.Program.{Function, GlobalVariable, Program, size, sizes}
 use Rattle.c_tree.specs.Resolve.{named_main, first_of_all}
 use Rattle.c_tree.specs.Meaning.{initial_cells, function_cells, main_functions, all_functions, global_cells, main_base, main_body, base_of}
 use Rattle.c_flat.specs.declared.node.Node.{Node}
 use Rattle.c_flat.specs.declared.function.Body.{Body}
-use Rattle.c_flat.specs.Written.{Written, OfCommand, as_command, written}
-use Rattle.c_flat.specs.Listing.{Outline, outline, body_shown}
+use Rattle.c_flat.specs.Written.{OfCommand, as_command, written}
+use Rattle.c_flat.specs.Listing.{outline, body_shown}
 use Rattle.c_eval.specs.declared.code.Code.{Code}
 use Rattle.c_eval.specs.declared.code.Entry.{Entry}
 use Rattle.c_frames.specs.Frames.{Work, Run}

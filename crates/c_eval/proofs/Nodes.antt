@@ -1,11 +1,11 @@
 -- A number that no node has stands for nothing to do.
-use Rattle.std.proofs.Common.{◌≡◌, refl, sym, ap, ◌∙◌, ℕ, zero, suc, ◌<◌, ◌≤◌, arith, List, [], ◌∷◌, length, reverse, None}
+use Rattle.std.proofs.Common.{◌≡◌, refl, ◌∙◌, ℕ, zero, suc, ◌<◌, ◌≤◌, arith, List, [], ◌∷◌, length, reverse, None}
 use Rattle.std.specs.Prelude.{slice_get, ◌==◌, if◌then◌else◌}
 use Rattle.std.proofs.lemmas.List.{length-reverse}
 use Rattle.std.proofs.lemmas.Bool.Decides.{nat_tests}
 use Rattle.c_tree.specs.Program.{Skip}
 use Rattle.c_flat.specs.declared.node.Node.{Node}
-use Rattle.c_flat.specs.Written.{Written, OfCommand, one, grown, written}
+use Rattle.c_flat.specs.Written.{Written, OfCommand, grown, written}
 
 outside : {X : Type 0} (xs : List X) (n : ℕ) → slice_get xs n ≡ None → length xs ≤ n
 outside [] n is = omega arith

@@ -1,16 +1,16 @@
 -- A run so far, step by step: what is left of it is the run's outcome, and the lines so far were taken.
-use Rattle.std.proofs.Common.{◌≡◌, refl, sym, ap, ◌∙◌, subst, ℕ, zero, suc, ◌<◌, ◌≤◌, arith, ℤ, List, [], ◌∷◌, ◌++◌, append-nil, append_assoc, Option, Some, None}
+use Rattle.std.proofs.Common.{◌≡◌, refl, sym, ap, ◌∙◌, subst, ℕ, ◌<◌, arith, ℤ, List, [], ◌∷◌, ◌++◌, append-nil, Option, Some, None}
 use Rattle.std.proofs.lemmas.Grind.{flat_map-append}
 use Rattle.nk_outside.specs.Outcome.{Outcome, line, lines}
 use Rattle.nk_outside.specs.Taken.{Took, TookFront}
 use Rattle.nk_outside.specs.declared.stop.Stop.{Stop}
 use Rattle.nk_outside.proofs.Pieces.{took_append, front_after, front_of_first}
 use Rattle.c_tree.specs.Program.{Program}
-use Rattle.c_tree.specs.Meaning.{State, stopped, outcome}
+use Rattle.c_tree.specs.Meaning.{stopped, outcome}
 use Rattle.c_frames.specs.Steps.{Config, Move, Goes, Stops, step, moved_on, follow, begin, rest_of, Follows, HasStopped, ahead, ahead_config, ahead_move, steps_left}
 use Rattle.c_frames.proofs.Keeps.{follows}
 use Rattle.c_frames.proofs.Halts.{from_begin}
-use Rattle.c_frames.proofs.Ahead.{follow_ahead, stops_behind, left_ahead, Fewer, fewer_left}
+use Rattle.c_frames.proofs.Ahead.{follow_ahead, stops_behind, left_ahead, fewer_left}
 use Rattle.c_eval.specs.declared.code.Code.{Code}
 use Rattle.c_eval.specs.declared.machine.Machine.{Machine}
 use Rattle.c_eval.specs.declared.task.Moved.{Moved}

@@ -1,12 +1,12 @@
 -- What waits in a machine in code, the last first; and what waits for a number is no end of a command.
-use Rattle.std.proofs.Common.{◌≡◌, refl, sym, ap, ◌∙◌, ℕ, ◌+◌, ℤ, List, [], ◌∷◌, ◌++◌, map, reverse}
+use Rattle.std.proofs.Common.{◌≡◌, refl, ap, ◌∙◌, ℕ, ◌+◌, ℤ, List, [], ◌∷◌, ◌++◌, map, reverse}
 use Rattle.std.proofs.lemmas.List.{reverse-append, map-append}
 use Rattle.nk_outside.specs.declared.stop.Stop.TheVariants as stops
 use Rattle.c_tree.specs.Program.{Program}
 use Rattle.c_tree.specs.Meaning.{State, put, with_arguments}
 use Rattle.c_flat.specs.declared.node.Node.{Node}
 use Rattle.c_frames.specs.Frames.{Where, Frame}
-use Rattle.c_frames.specs.Steps.{Move, Goes, Stops, step_pass, step_on, step_leave, step_onward, step_back}
+use Rattle.c_frames.specs.Steps.{Stops, step_pass, step_on, step_leave, step_onward, step_back}
 use Rattle.c_eval.specs.declared.task.Expects.{Expects}
 use Rattle.c_eval.specs.declared.task.Expects.TheVariants as expects
 use Rattle.c_eval.specs.declared.task.Pending.{Pending}

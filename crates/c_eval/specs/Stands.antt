@@ -1,5 +1,5 @@
 -- What a machine in code stands for: a configuration of the machine that does what a program means.
-use Rattle.std.specs.Prelude.{◌≡◌, ℕ, ◌+◌, ℤ, List, [], ◌∷◌, ◌++◌, map, reverse, drop, Option, Some, None, slice_get}
+use Rattle.std.specs.Prelude.{◌≡◌, ℕ, ℤ, List, [], ◌∷◌, ◌++◌, map, reverse, drop, Option, Some, None, slice_get}
 use Rattle.c_tree.specs.Program.{Term, Terms, Command, Function, Program}
 use Rattle.c_tree.specs.Program as program
 use Rattle.c_tree.specs.Meaning.{State, base_of}
@@ -7,7 +7,7 @@ use Rattle.c_frames.specs.Frames.{Where, Loop, Frame, Work, Eval, Arguments, Giv
 use Rattle.c_frames.specs.Frames as frames
 use Rattle.c_frames.specs.Steps.{Config, Move, Goes, Stops}
 use Rattle.c_flat.specs.declared.node.Node.{Node}
-use Rattle.c_flat.specs.Written.{Written, as_term, as_terms, as_command, written, Falls}
+use Rattle.c_flat.specs.Written.{Written, as_term, as_terms, as_command, written}
 use Rattle.c_eval.specs.declared.task.Repeat.{Repeat}
 use Rattle.c_eval.specs.declared.task.Repeat.TheVariants as repeats
 use Rattle.c_eval.specs.declared.task.Expects.{Expects}

@@ -6,7 +6,7 @@ use Rattle.c_tree.specs.declared.meaning.Place.{Place}
 use Rattle.c_tree.specs.Program.{Term, Terms, Command, Function, Program}
 use Rattle.c_tree.specs.Program as program
 use Rattle.c_tree.specs.Meaning.{State, cell, held, is_true, base_of, main_base, main_body, beginning}
-use Rattle.c_frames.specs.Frames.{Where, Loop, While, Do, For, Frame, Element, Unary, Shifted, ArithmeticRight, ArithmeticLeft, CompareRight, CompareLeft, Negate, AndRight, OrRight, AsTruth, Argument, Passed, Calling, SetTo, StoreIndex, StoreAt, ChangeIndex, ChangeAt, Show, Drop, Choose, Tested, Giving, Behind, Looping, Stepping, Starting, Called, frame_at, Work, Eval, Arguments, Give, Pass, Run, Again, On, Leave, Onward, Back}
+use Rattle.c_frames.specs.Frames.{Where, Loop, While, Do, For, Frame, AsTruth, Calling, StoreAt, ChangeAt, Tested, Looping, Stepping, frame_at, Work, Eval, Arguments, Give, Pass, Run, Again, On, Leave, Onward, Back}
 use Rattle.c_frames.specs.Steps.{Config, Move, Goes, Stops, either_move, paying, taking, enter, step_test, step_give, step_looped, step, to, moved_on, follow, begin, HasStopped}
 
 module _ (p : Program) (n : ℕ) where

@@ -1,4 +1,4 @@
-use Rattle.std.proofs.Common.{◌≡◌, ◌+◌, ◌-◌, ◌++◌, [], ap, sym, ◌∙◌, arith, pos, List, ℤ, length, map, replicate, reverse, refl, subst, append-nil}
+use Rattle.std.proofs.Common.{◌≡◌, ◌+◌, ◌-◌, ◌++◌, [], ap, sym, ◌∙◌, arith, pos, length, map, replicate, reverse, refl, subst, append-nil}
 use Rattle.std.specs.List.{flat_map}
 use Rattle.c_tree.specs.Items.{item}
 use Rattle.c_tree.specs.Names.{first_names}
