@@ -2,7 +2,7 @@
 use Rattle.std.proofs.Common.{◌≡◌, refl, sym, ap, ◌∙◌, ℕ, zero, suc, ◌+◌, ◌≤◌, arith, ℤ, pos, List, [], ◌∷◌, ◌++◌, length, take, drop, replicate, append_assoc, length-append}
 use Rattle.std.proofs.lemmas.List.{length-replicate}
 use Rattle.c_flat.specs.declared.function.Body.{Body}
-use Rattle.c_eval.specs.declared.code.Entry.{Entry}
+use Rattle.c_machine.specs.declared.code.Entry.{Entry}
 use Rattle.c_eval.specs.Laid.{entries_of, others_cells}
 
 -- the functions so far are laid out, and those that are left come behind them

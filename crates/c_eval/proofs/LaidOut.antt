@@ -10,12 +10,12 @@ use Rattle.c_flat.specs.declared.node.Node.{Node}
 use Rattle.c_flat.specs.declared.function.Body.{Body}
 use Rattle.c_flat.specs.Written.{OfCommand, as_command, written}
 use Rattle.c_flat.specs.Listing.{outline, body_shown}
-use Rattle.c_eval.specs.declared.code.Code.{Code}
-use Rattle.c_eval.specs.declared.code.Entry.{Entry}
+use Rattle.c_machine.specs.declared.code.Code.{Code}
+use Rattle.c_machine.specs.declared.code.Entry.{Entry}
 use Rattle.c_frames.specs.Frames.{Work, Run}
 use Rattle.c_frames.specs.Steps.{begin}
-use Rattle.c_eval.specs.declared.task.Pending.{Pending}
-use Rattle.c_eval.specs.Stands.{command_at, frames_of, work_of, StandsFor, IsCode}
+use Rattle.c_machine.specs.declared.task.Pending.{Pending}
+use Rattle.c_machine.specs.Stands.{command_at, frames_of, work_of, StandsFor, IsCode}
 use Rattle.std.proofs.lemmas.Grind.{flat_map-append}
 use Rattle.c_tree.specs.declared.program.Global.{Global}
 use Rattle.c_tree.specs.declared.program.Global.TheVariants as global

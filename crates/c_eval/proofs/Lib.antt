@@ -1,5 +1,3 @@
-mod Stacks
-mod Nodes
 mod Runs
 mod LaidOut
 mod Cells

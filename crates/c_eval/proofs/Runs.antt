@@ -11,11 +11,11 @@ use Rattle.c_frames.specs.Steps.{Config, Move, Goes, Stops, step, moved_on, foll
 use Rattle.c_frames.proofs.Keeps.{follows}
 use Rattle.c_frames.proofs.Halts.{from_begin}
 use Rattle.c_frames.proofs.Ahead.{follow_ahead, stops_behind, left_ahead, fewer_left}
-use Rattle.c_eval.specs.declared.code.Code.{Code}
-use Rattle.c_eval.specs.declared.machine.Machine.{Machine}
-use Rattle.c_eval.specs.declared.task.Moved.{Moved}
-use Rattle.c_eval.specs.declared.task.Moved.TheVariants as moves
-use Rattle.c_eval.specs.Stands.{config_of, move_of, state_of}
+use Rattle.c_machine.specs.declared.code.Code.{Code}
+use Rattle.c_machine.specs.declared.machine.Machine.{Machine}
+use Rattle.c_machine.specs.declared.task.Moved.{Moved}
+use Rattle.c_machine.specs.declared.task.Moved.TheVariants as moves
+use Rattle.c_machine.specs.Stands.{config_of, move_of, state_of}
 use Rattle.c_eval.specs.Running.{Running, left}
 
 lines_more : (xs ys : List ℤ) → lines (xs ++ ys) ≡ lines xs ++ lines ys

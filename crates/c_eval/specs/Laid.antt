@@ -8,9 +8,9 @@ use Rattle.c_tree.specs.declared.program.Global.TheVariants as global
 use Rattle.c_tree.specs.Names.{gvar_shape, gvars}
 use Rattle.c_tree.specs.Resolve.{initials}
 use Rattle.c_flat.specs.declared.function.Body.{Body}
-use Rattle.c_eval.specs.declared.task.Task.{Task}
-use Rattle.c_eval.specs.declared.task.Task.TheVariants as tasks
-use Rattle.c_eval.specs.declared.code.Entry.{Entry}
+use Rattle.c_machine.specs.declared.task.Task.{Task}
+use Rattle.c_machine.specs.declared.task.Task.TheVariants as tasks
+use Rattle.c_machine.specs.declared.code.Entry.{Entry}
 
 -- the functions other than `main`, each with its first cell, from this cell on
 abbrev pub entries_of : ℕ → List Body → List Entry

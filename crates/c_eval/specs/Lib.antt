@@ -1,5 +1,3 @@
-pub mod Stands
-pub mod Filled
+pub mod Laid
 pub mod Evaluates
 pub mod Running
-pub mod Laid

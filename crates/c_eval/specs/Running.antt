@@ -6,9 +6,9 @@ use Rattle.nk_outside.specs.declared.stop.Stop.{Stop}
 use Rattle.nk_outside.specs.declared.stop.EvalFault.{EvalFault}
 use Rattle.c_tree.specs.Program.{Program}
 use Rattle.c_frames.specs.Steps.{HasStopped, follow, rest_of, steps_left}
-use Rattle.c_eval.specs.declared.code.Code.{Code}
-use Rattle.c_eval.specs.declared.machine.Machine.{Machine}
-use Rattle.c_eval.specs.Stands.{config_of}
+use Rattle.c_machine.specs.declared.code.Code.{Code}
+use Rattle.c_machine.specs.declared.machine.Machine.{Machine}
+use Rattle.c_machine.specs.Stands.{config_of}
 
 module _ (p : Program) (c : Code) (input : List ℤ) where
   -- what is left of the run is that of this outcome, the lines of its outputs so far were taken, and it stops within so many steps

@@ -9,14 +9,12 @@ ghost use Rattle.c_tree.specs.Meaning.{outcome};
 ghost use Rattle.c_tree.specs.Resolve.{resolved};
 ghost use Rattle.c_flat.specs.Written.{Falls};
 ghost use Rattle.c_frames.specs.Steps.{begin};
-ghost use Rattle.c_eval.specs.Stands.{IsCode, config_of};
+ghost use Rattle.c_machine.specs.Stands.{IsCode, config_of};
 ghost use Rattle.c_eval.specs.Evaluates.{Evaluates, CountsRun};
 ghost use Rattle.c_eval.specs.Running.{Running, Advanced};
 
-use crate::code::Code;
-use crate::machine::Machine;
 use crate::start::start;
-use crate::task::Moved;
+use c_machine::{Code, Machine, Moved};
 use c_tree::CProg;
 use nk_base::dec_into;
 use nk_outside::{EvalFault, Sink, Stop};

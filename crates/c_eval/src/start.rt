@@ -6,14 +6,12 @@ ghost use Rattle.c_tree.specs.Names.{gvars};
 ghost use Rattle.c_tree.specs.Resolve.{initial, resolved};
 ghost use Rattle.c_flat.specs.Written.{Falls};
 ghost use Rattle.c_frames.specs.Steps.{begin};
-ghost use Rattle.c_eval.specs.Stands.{IsCode, config_of};
+ghost use Rattle.c_machine.specs.Stands.{IsCode, config_of};
 ghost use Rattle.c_eval.specs.Laid as laid;
 ghost use Rattle.c_eval.specs.Laid.{cells_of_global, entries_of, others_cells, main_cells, task_of, variable_cells};
 
-use crate::code::{Code, Entry};
-use crate::machine::Machine;
-use crate::task::Task;
-use c_flat::{Body, Node, push_bodies};
+use c_flat::{Body, push_bodies};
+use c_machine::{Code, Entry, Machine, Task};
 use c_tree::{CProg, GVar, Global as CGlobal, SNum, Vars};
 use nk_base::Memory;
 use std::alloc::Global;

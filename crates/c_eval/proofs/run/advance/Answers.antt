@@ -5,7 +5,7 @@ use Rattle.nk_outside.specs.Outcome.{line}
 use Rattle.nk_outside.specs.Taken.{Took, TookFront}
 use Rattle.std.proofs.lemmas.Result.{err_from_is_err_and}
 use Rattle.c_frames.specs.Steps.{step}
-use Rattle.c_eval.specs.Stands.{config_of, move_of}
+use Rattle.c_machine.specs.Stands.{config_of, move_of}
 use Rattle.c_eval.proofs.Runs.{goes, puts, put_cut, cut, stops}
 use Rattle.c_eval.proofs.run.advance.Goals as goal
 

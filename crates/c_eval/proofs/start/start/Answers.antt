@@ -6,9 +6,9 @@ use Rattle.c_tree.specs.Resolve.{resolved, resolved_items, resolved_functions}
 use Rattle.c_tree.specs.Meaning.{global_cells, function_cells, main_functions, all_functions, initial_cells}
 use Rattle.c_flat.specs.Listing.{body_shown}
 use Rattle.c_frames.specs.Steps.{begin}
-use Rattle.c_eval.specs.Stands.{IsCode, config_of, work_of}
+use Rattle.c_machine.specs.Stands.{IsCode, config_of, work_of}
 use Rattle.c_eval.specs.Laid.{cells_of_global, main_of, main_cells, others_cells, task_of, entries_of}
-use Rattle.c_eval.specs.declared.code.Code.{Code}
+use Rattle.c_machine.specs.declared.code.Code.{Code}
 use Rattle.c_eval.proofs.LaidOut.{Same, main_is, main_cells_are, cells_of_globals, base_is, function_count, work_is, begins_so, code_is, first_main}
 use Rattle.c_eval.proofs.start.start.Goals as goal
 

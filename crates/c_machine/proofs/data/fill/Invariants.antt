@@ -1,6 +1,6 @@
 use Rattle.std.proofs.Common.{◌≡◌, ◌+◌, length, reverse}
-use Rattle.c_eval.specs.Filled.{put_all, filled}
-use Rattle.c_eval.proofs.data.fill.Given as goal
+use Rattle.c_machine.specs.Filled.{put_all, filled}
+use Rattle.c_machine.proofs.data.fill.Given as goal
 
 -- what is left comes behind what was put, and the cells are still numbered
 abbrev pub invariant-loop-z : goal.invariant-loop-z

@@ -3,7 +3,7 @@
 ghost use Rattle.std.specs.Prelude.{◌≡◌, ℕ};
 ghost use Rattle.std.specs.Option.{option_map};
 ghost use Rattle.c_flat.specs.Written.{Written, as_term, as_terms, as_command, one};
-ghost use Rattle.c_eval.specs.Stands.{term_over, terms_over, command_over};
+ghost use Rattle.c_machine.specs.Stands.{term_over, terms_over, command_over};
 
 use c_flat::Node;
 use c_tree::Place;

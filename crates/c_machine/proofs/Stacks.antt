@@ -7,11 +7,11 @@ use Rattle.c_tree.specs.Meaning.{State, put, with_arguments}
 use Rattle.c_flat.specs.declared.node.Node.{Node}
 use Rattle.c_frames.specs.Frames.{Where, Frame}
 use Rattle.c_frames.specs.Steps.{Stops, step_pass, step_on, step_leave, step_onward, step_back}
-use Rattle.c_eval.specs.declared.task.Expects.{Expects}
-use Rattle.c_eval.specs.declared.task.Expects.TheVariants as expects
-use Rattle.c_eval.specs.declared.task.Pending.{Pending}
-use Rattle.c_eval.specs.Filled.{put_all}
-use Rattle.c_eval.specs.Stands.{expected, frame_of, frames_of}
+use Rattle.c_machine.specs.declared.task.Expects.{Expects}
+use Rattle.c_machine.specs.declared.task.Expects.TheVariants as expects
+use Rattle.c_machine.specs.declared.task.Pending.{Pending}
+use Rattle.c_machine.specs.Filled.{put_all}
+use Rattle.c_machine.specs.Stands.{expected, frame_of, frames_of}
 
 pub frames_push : (ns : List Node) (ps : List Pending) (f : Pending) → frames_of ns (ps ++ f ∷ []) ≡ frame_of ns f ∷ frames_of ns ps
 frames_push ns ps f = ap reverse (map-append (frame_of ns) ps (f ∷ [])) ∙ reverse-append (map (frame_of ns) ps) (frame_of ns f ∷ [])

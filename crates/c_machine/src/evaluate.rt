@@ -6,7 +6,7 @@ ghost use Rattle.c_frames.specs.Frames.{Eval, Give, frame_at};
 ghost use Rattle.c_tree.specs.Meaning.{cell};
 ghost use Rattle.c_tree.specs.Meaning as meaning;
 ghost use Rattle.c_flat.specs.Written.{written};
-ghost use Rattle.c_eval.specs.Stands.{Comes, term_at, term_over, terms_over, expected};
+ghost use Rattle.c_machine.specs.Stands.{Comes, term_at, term_over, terms_over, expected};
 
 use crate::code::Code;
 use crate::data::{held, scalar_cell};

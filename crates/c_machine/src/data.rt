@@ -3,7 +3,7 @@
 ghost use Rattle.std.specs.Prelude.{◌≡◌, ◌+◌, ◌<◌, ℕ, true, false, pos, int_le, int_lt, unsigned_abs, ◌&&◌, slice_index_or, slice_set, IfOk, MatchOption, []};
 ghost use Rattle.c_tree.specs.Meaning.{Frame, cell};
 ghost use Rattle.c_tree.specs.Meaning as meaning;
-ghost use Rattle.c_eval.specs.Filled.{filled};
+ghost use Rattle.c_machine.specs.Filled.{filled};
 
 use c_tree::Place;
 use nk_base::Memory;

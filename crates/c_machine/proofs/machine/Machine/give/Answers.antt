@@ -3,9 +3,9 @@ use Rattle.std.specs.Int.{w64}
 use Rattle.std.proofs.lemmas.Int.{to_z-of_z}
 use Rattle.c_flat.proofs.Chained.{ok_more}
 use Rattle.c_frames.specs.Steps.{step_give}
-use Rattle.c_eval.specs.Stands.{place_of, state_of, frame_of, frames_of}
-use Rattle.c_eval.proofs.Stacks.{frames_pop}
-use Rattle.c_eval.proofs.machine.Machine.give.Goals as goal
+use Rattle.c_machine.specs.Stands.{place_of, state_of, frame_of, frames_of}
+use Rattle.c_machine.proofs.Stacks.{frames_pop}
+use Rattle.c_machine.proofs.machine.Machine.give.Goals as goal
 
 pub returns-in-Some : goal.returns-in-Some
 returns-in-Some c =

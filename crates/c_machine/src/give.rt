@@ -9,8 +9,8 @@ ghost use Rattle.c_flat.specs.Written.{written};
 ghost use Rattle.c_frames.specs.Frames.{Run, On, frame_at};
 ghost use Rattle.c_frames.specs.Frames as waits;
 ghost use Rattle.c_frames.specs.Steps.{to, either_move, step_give};
-ghost use Rattle.c_eval.specs.Stands.{Comes, work_of, term_at, command_at, loop_over, expected, frame_of};
-ghost use Rattle.c_eval.specs.declared.code.Code.{Code};
+ghost use Rattle.c_machine.specs.Stands.{Comes, work_of, term_at, command_at, loop_over, expected, frame_of};
+ghost use Rattle.c_machine.specs.declared.code.Code.{Code};
 
 use crate::code::Code;
 use crate::data::{element_cell, held, index_of, is_true, put, scalar_cell, truth};

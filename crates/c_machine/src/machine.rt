@@ -4,7 +4,7 @@ ghost use Rattle.std.specs.Prelude.{◌≡◌, ◌∷◌, true, false, reverse, 
 ghost use Rattle.c_frames.specs.Steps.{to, paying, taking, Stops};
 ghost use Rattle.c_frames.specs.Frames.{Give, On};
 ghost use Rattle.nk_outside.specs.declared.stop.Stop.TheVariants as stops;
-ghost use Rattle.c_eval.specs.Stands.{Comes, work_of, frame_of};
+ghost use Rattle.c_machine.specs.Stands.{Comes, work_of, frame_of};
 
 use crate::code::Code;
 use crate::task::{Moved, Pending, Task};

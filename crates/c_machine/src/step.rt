@@ -5,7 +5,7 @@ ghost use Rattle.nk_base.specs.Number.{IsWidth};
 ghost use Rattle.c_tree.specs.Program.{Program};
 ghost use Rattle.c_flat.specs.Written.{Falls};
 ghost use Rattle.c_frames.specs.Steps as steps;
-ghost use Rattle.c_eval.specs.Stands.{IsCode, config_of, move_of};
+ghost use Rattle.c_machine.specs.Stands.{IsCode, config_of, move_of};
 
 use crate::code::Code;
 use crate::machine::Machine;

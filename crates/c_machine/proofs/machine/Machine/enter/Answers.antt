@@ -2,10 +2,10 @@ use Rattle.std.proofs.Common.{ap, ap₂, sym, ◌∙◌, ◌∷◌, List, ℤ, r
 use Rattle.c_tree.specs.Meaning.{State}
 use Rattle.c_frames.specs.Frames.{Run, Frame, Called}
 use Rattle.c_frames.specs.Steps.{to}
-use Rattle.c_eval.specs.declared.task.Pending.TheVariants as pendings
-use Rattle.c_eval.specs.Stands.{command_at, state_of, frames_of}
-use Rattle.c_eval.proofs.Stacks.{frames_push, with_put}
-use Rattle.c_eval.proofs.machine.Machine.enter.Goals as goal
+use Rattle.c_machine.specs.declared.task.Pending.TheVariants as pendings
+use Rattle.c_machine.specs.Stands.{command_at, state_of, frames_of}
+use Rattle.c_machine.proofs.Stacks.{frames_push, with_put}
+use Rattle.c_machine.proofs.machine.Machine.enter.Goals as goal
 
 pub returns : goal.returns
 returns c = λ p out.

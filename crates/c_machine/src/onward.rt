@@ -4,7 +4,7 @@ ghost use Rattle.std.specs.Prelude.{◌≡◌, ◌∷◌, IfOk};
 ghost use Rattle.c_flat.specs.Written.{written};
 ghost use Rattle.c_frames.specs.Frames.{Give};
 ghost use Rattle.c_frames.specs.Steps.{to, step_looped, step_on, step_leave, step_onward, step_back};
-ghost use Rattle.c_eval.specs.Stands.{Comes, loop_over, frame_of};
+ghost use Rattle.c_machine.specs.Stands.{Comes, loop_over, frame_of};
 
 use crate::code::Code;
 use crate::machine::Machine;

@@ -8,23 +8,23 @@ use Rattle.c_frames.specs.Frames as frames
 use Rattle.c_frames.specs.Steps.{Config, Move, Goes, Stops}
 use Rattle.c_flat.specs.declared.node.Node.{Node}
 use Rattle.c_flat.specs.Written.{Written, as_term, as_terms, as_command, written}
-use Rattle.c_eval.specs.declared.task.Repeat.{Repeat}
-use Rattle.c_eval.specs.declared.task.Repeat.TheVariants as repeats
-use Rattle.c_eval.specs.declared.task.Expects.{Expects}
-use Rattle.c_eval.specs.declared.task.Expects.TheVariants as expects
-use Rattle.c_eval.specs.declared.task.Pending.{Pending}
-use Rattle.c_eval.specs.declared.task.Pending.TheVariants as pendings
-use Rattle.c_eval.specs.declared.task.Task.{Task}
-use Rattle.c_eval.specs.declared.task.Task.TheVariants as tasks
-use Rattle.c_eval.specs.declared.task.Moved.{Moved}
-use Rattle.c_eval.specs.declared.task.Moved.TheVariants as moves
-use Rattle.c_eval.specs.declared.sort.TermNode.{TermNode}
-use Rattle.c_eval.specs.declared.sort.TermNode.TheVariants as term_node
-use Rattle.c_eval.specs.declared.sort.CommandNode.{CommandNode}
-use Rattle.c_eval.specs.declared.sort.CommandNode.TheVariants as command_node
-use Rattle.c_eval.specs.declared.machine.Machine.{Machine}
-use Rattle.c_eval.specs.declared.code.Code.{Code}
-use Rattle.c_eval.specs.declared.code.Entry.{Entry}
+use Rattle.c_machine.specs.declared.task.Repeat.{Repeat}
+use Rattle.c_machine.specs.declared.task.Repeat.TheVariants as repeats
+use Rattle.c_machine.specs.declared.task.Expects.{Expects}
+use Rattle.c_machine.specs.declared.task.Expects.TheVariants as expects
+use Rattle.c_machine.specs.declared.task.Pending.{Pending}
+use Rattle.c_machine.specs.declared.task.Pending.TheVariants as pendings
+use Rattle.c_machine.specs.declared.task.Task.{Task}
+use Rattle.c_machine.specs.declared.task.Task.TheVariants as tasks
+use Rattle.c_machine.specs.declared.task.Moved.{Moved}
+use Rattle.c_machine.specs.declared.task.Moved.TheVariants as moves
+use Rattle.c_machine.specs.declared.sort.TermNode.{TermNode}
+use Rattle.c_machine.specs.declared.sort.TermNode.TheVariants as term_node
+use Rattle.c_machine.specs.declared.sort.CommandNode.{CommandNode}
+use Rattle.c_machine.specs.declared.sort.CommandNode.TheVariants as command_node
+use Rattle.c_machine.specs.declared.machine.Machine.{Machine}
+use Rattle.c_machine.specs.declared.code.Code.{Code}
+use Rattle.c_machine.specs.declared.code.Entry.{Entry}
 
 -- the expression, the arguments, the command that a node writes out
 abbrev pub term_at : List Node → ℕ → Term

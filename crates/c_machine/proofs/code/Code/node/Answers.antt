@@ -1,7 +1,7 @@
 use Rattle.std.proofs.Common.{sym, ◌∙◌}
 use Rattle.c_flat.proofs.Grown.{written_at}
-use Rattle.c_eval.proofs.Nodes.{written_nowhere}
-use Rattle.c_eval.proofs.code.Code.node.Goals as goal
+use Rattle.c_machine.proofs.Nodes.{written_nowhere}
+use Rattle.c_machine.proofs.code.Code.node.Goals as goal
 
 pub returns-in-None : goal.returns-in-None
 returns-in-None c = sym (written_nowhere c.args.self.now.nodes.items c.args.number (sym c.found.ensures ∙ c.in-None.is))
