@@ -1,14 +1,15 @@
 -- Nodes one behind the other, and the node of an expression over its two parts.
-use Rattle.std.specs.Prelude.{◌≡◌, ℕ, List, [], ◌∷◌, ◌++◌, length, map, ◌<◌, Option, None, Some, option_map}
+use Rattle.std.specs.Prelude.{◌≡◌, ℕ, Bool, List, [], ◌∷◌, ◌++◌, length, map, ◌<◌, Option, None, Some, option_map}
 use Rattle.c_tree.specs.Items.{Item}
 use Rattle.c_tree.specs.Names.{first_names}
-use Rattle.c_tree.specs.Program.{Term, Function}
+use Rattle.c_tree.specs.Program.{Term, Function, sizes}
 use Rattle.c_tree.specs.Program as program
 use Rattle.c_tree.specs.Formula.{Formula, Binary}
 use Rattle.c_tree.specs.Formula as formula
-use Rattle.c_tree.specs.Resolve.{unary, binary, resolved_functions}
+use Rattle.c_tree.specs.Resolve.{unary, binary, resolved_functions, named_main}
 use Rattle.c_tree.specs.Resolve as resolve
 use Rattle.c_flat.specs.declared.node.Node.{Node}
+use Rattle.c_flat.specs.declared.function.Body.{Body}
 use Rattle.c_flat.specs.declared.chain.Chain.{Chain}
 use Rattle.c_flat.specs.declared.chain.Chain.TheVariants as chain
 use Rattle.c_flat.specs.Written.{Written, OfTerms, OfCommand, as_term, as_terms, as_command, written, AreBelow, Falls, Extends}
@@ -57,17 +58,27 @@ pub record Conditioned (old new : List Node) (t : Option Term) (condition : Opti
   pub within : IsWithin condition (length new)
   pub is : condition_of (written new) condition ≡ t
 
--- what the bodies of functions are
-abbrev pub written_bodies : List Function → List Written
-written_bodies = map (λ f. OfCommand f.body)
+-- what is known of a function: whether it is called `main`, what its body is, and how many cells its variables have
+abbrev pub Outline : Type 0
+Outline = Bool × (Written × ℕ)
 
--- what the bodies of a program's functions are, in the text's order
-abbrev pub bodies_of : List Item → List Written
-bodies_of gs = written_bodies (resolved_functions (first_names gs) gs)
+abbrev pub outline : Function → Outline
+outline f = (named_main f, (OfCommand f.body, sizes f.variables))
 
--- Nodes of these numbers stand, and what they write out is the front of the whole, with this left; the old nodes are as before.
-pub record Standing (old nodes : List Node) (ks : List ℕ) (left whole : List Written) : Type 0 where
+-- the functions of a program, in the text's order
+abbrev pub outlines_of : List Item → List Outline
+outlines_of gs = map outline (resolved_functions (first_names gs) gs)
+
+-- a body, by what its node writes out
+abbrev pub body_shown : List Node → Body → Outline
+body_shown nodes b = (b.main, (written nodes b.node, b.cells))
+
+abbrev pub body_nodes : List Body → List ℕ
+body_nodes bs = map (λ b. b.node) bs
+
+-- The nodes of these bodies stand, and what they are is the front of the whole, with this left; the old nodes are as before.
+pub record Standing (old nodes : List Node) (bs : List Body) (left whole : List Outline) : Type 0 where
   pub extends : Extends old nodes
   pub falls : Falls nodes
-  pub within : AreBelow ks (length nodes)
-  pub are : map (written nodes) ks ++ left ≡ whole
+  pub within : AreBelow (body_nodes bs) (length nodes)
+  pub are : map (body_shown nodes) bs ++ left ≡ whole

@@ -10,7 +10,7 @@ use Rattle.c_tree.specs.Program as program
 use Rattle.c_flat.specs.declared.node.Node.TheVariants as node
 use Rattle.c_flat.specs.Written.{OfTerm, OfTerms, OfCommand, written}
 use Rattle.c_flat.specs.declared.chain.Chain.TheVariants as chain
-use Rattle.c_flat.specs.Listing.{ahead, end_of, over, condition_of, bodies_of}
+use Rattle.c_flat.specs.Listing.{ahead, end_of, over, condition_of, outlines_of}
 
 -- x = x + 1
 counts : written (node.Scalar (places.Local 0) ∷ node.Number 1 ∷ node.Arithmetic arith.Add 0 1 ∷ node.Set (places.Local 0) 2 ∷ []) 3
@@ -42,5 +42,5 @@ without_condition : condition_of (written (node.Number 1 ∷ [])) None ≡ None
 without_condition = refl
 
 -- a program with one function
-one_body : length (bodies_of echo) ≡ 1
-one_body = refl
+one_outline : length (outlines_of echo) ≡ 1
+one_outline = refl

@@ -6,9 +6,9 @@ ghost use Rattle.c_tree.specs.Names.{behind_gvar, behind_gvars, gvars};
 ghost use Rattle.c_names.specs.Shown.{names};
 ghost use Rattle.c_check.specs.Walk.{further_gvars};
 ghost use Rattle.c_flat.specs.Written.{Falls};
-ghost use Rattle.c_flat.specs.Listing.{Standing, bodies_of};
+ghost use Rattle.c_flat.specs.Listing.{Standing, outlines_of};
 
-use crate::function::push_function;
+use crate::function::{Body, push_function};
 use crate::node::Node;
 use c_names::{Scopes, first_scopes};
 use c_tree::{GVar, Global as CGlobal, Vars};
@@ -45,7 +45,7 @@ fn declare_variables(scopes: &mut Scopes, vars: &Vars) -> Result<(), Memory>
     declare_others(scopes, vars.rest.as_slice())
 }
 
-/// Puts the nodes of the bodies of all functions behind the others, `main`'s too, and answers their numbers in the
+/// Puts the nodes of the bodies of all functions behind the others, `main`'s too, and answers the bodies in the
 /// text's order.
 ///
 /// The one error is want of memory.
@@ -53,20 +53,20 @@ pub fn push_bodies(
     alloc: Global,
     globals: &[CGlobal],
     nodes: &mut Vec<Node>,
-) -> Result<Vec<usize>, Memory>
+) -> Result<Vec<Body>, Memory>
     requires falls { Falls nodes.old.items }
-    ensures { IfOk result (λ ks. Standing nodes.old.items nodes.new.items ks.items [] (bodies_of (map item globals.now))) }
+    ensures { IfOk result (λ bs. Standing nodes.old.items nodes.new.items bs.items [] (outlines_of (map item globals.now))) }
 {
     let mut scopes = first_scopes(alloc, globals)?;
-    let mut numbers = Vec::new(alloc);
+    let mut bodies = Vec::new(alloc);
     for one in globals {
         match one {
             CGlobal::Vars(vars) => declare_variables(&mut scopes, vars)?,
             CGlobal::Function(function) => {
-                let number = push_function(alloc, &mut scopes, function, nodes)?;
-                numbers.push(number)?;
+                let body = push_function(alloc, &mut scopes, function, nodes)?;
+                bodies.push(body)?;
             }
         }
     }
-    Ok(numbers)
+    Ok(bodies)
 }

@@ -1,7 +1,8 @@
 //! The nodes of functions.
 
-ghost use Rattle.std.specs.Prelude.{◌≡◌, ◌∷◌, [], IfOk, OnOk};
-ghost use Rattle.c_tree.specs.Names.{behind_name, behind_parameters, before_body, parameters};
+ghost use Rattle.std.specs.Prelude.{◌≡◌, ◌∷◌, ◌++◌, [], None, length, replicate, IfOk, OnOk};
+ghost use Rattle.c_tree.specs.Names.{behind_name, behind_parameters, before_body, body_shapes, parameters};
+ghost use Rattle.c_tree.specs.Program.{sizes};
 ghost use Rattle.c_tree.specs.Names as spec;
 ghost use Rattle.c_tree.specs.Resolve.{commands, body_of};
 ghost use Rattle.c_tree.specs.Statement.{block};
@@ -11,7 +12,7 @@ ghost use Rattle.c_flat.specs.Written.{OfCommand, Falls, Grew};
 
 use crate::command::push_block;
 use crate::node::Node;
-use c_names::Scopes;
+use c_names::{Scopes, is_main};
 use c_tree::{Function, Meaning, Param, Params};
 use nk_base::Memory;
 use std::alloc::Global;
@@ -69,6 +70,16 @@ fn declare_parameters(scopes: &mut Scopes, params: &Option<Params>) -> Result<()
     }
 }
 
+/// The body of a function: whether the function is called `main`, the body's node, and how many cells its variables have.
+///
+/// The form is this project's own.
+#[derive(Clone, Copy)]
+pub struct Body {
+    pub main: bool,
+    pub node: usize,
+    pub cells: u128,
+}
+
 /// Declares the function's name, and puts the nodes of its body behind the others.
 ///
 /// The one error is want of memory.
@@ -77,17 +88,21 @@ pub fn push_function(
     scopes: &mut Scopes,
     function: &Function,
     nodes: &mut Vec<Node>,
-) -> Result<usize, Memory>
+) -> Result<Body, Memory>
     requires falls { Falls nodes.old.items }
     ensures scopes { OnOk result (names scopes.new ≡ behind_name (names scopes.old) (defined function.now)) }
-    ensures nodes { IfOk result (λ n. Grew nodes.old.items nodes.new.items (OfCommand (commands (before_body (names scopes.old) (defined function.now)) (body_of (block function.now.body)))) n) }
+    ensures nodes { IfOk result (λ b. Grew nodes.old.items nodes.new.items (OfCommand (commands (before_body (names scopes.old) (defined function.now)) (body_of (block function.now.body)))) b.node) }
+    ensures main { IfOk result (λ b. b.main ≡ spec.is_main (defined function.now)) }
+    ensures cells { IfOk result (λ b. b.cells ≡ sizes (replicate (length (parameters function.now.params)) None ++ body_shapes (body_of (block function.now.body)))) }
 {
     declare_function(scopes, function)?;
     let next = scopes.next;
     enter_function(scopes, alloc)?;
     declare_parameters(scopes, &function.params)?;
-    let body = push_block(alloc, scopes, function.body.parts.as_slice(), nodes)?;
+    let node = push_block(alloc, scopes, function.body.parts.as_slice(), nodes)?;
+    let cells = scopes.next;
     scopes.leave();
     scopes.next = next;
-    Ok(body)
+    let main = is_main(&function.name.text);
+    Ok(Body { main, node, cells })
 }

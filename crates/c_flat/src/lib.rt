@@ -16,7 +16,7 @@ pub use chain::{Chain, push_list};
 pub use command::push_block;
 pub use declaration::{push_first, push_locals};
 pub use expression::{push_expression, push_further};
-pub use function::push_function;
+pub use function::{Body, push_function};
 pub use make::{called_node, element_node, scalar_node};
 pub use node::{Node, push_node};
 pub use simple::push_simple;

@@ -216,3 +216,28 @@ module _ (p : Program) (n : ℕ) where
     frames = [];
     state = beginning p input turns;
   }
+
+  -- the machine has stopped
+  abbrev pub HasStopped : Move → Type 0
+  HasStopped (Goes c) = ⊥
+  HasStopped (Stops stop s) = Unit {0}
+
+  -- the same, where these were put out before all else
+  abbrev pub ahead : List ℤ → State → State
+  ahead zs s = record s { out = zs ++ s.out }
+
+  abbrev pub ahead_config : List ℤ → Config → Config
+  ahead_config zs c = record c { state = ahead zs c.state }
+
+  abbrev pub ahead_move : List ℤ → Move → Move
+  ahead_move zs (Goes c) = Goes (ahead_config zs c)
+  ahead_move zs (Stops stop s) = Stops stop (ahead zs s)
+
+  -- how many steps it makes until it stops, looked for within so many
+  abbrev pub counted : (Config → ℕ) → Move → ℕ
+  counted left (Goes c) = suc (left c)
+  counted left (Stops stop s) = 0
+
+  abbrev pub steps_left : ℕ → Config → ℕ
+  steps_left zero c = 0
+  steps_left (suc m) c = counted (steps_left m) (step c)
