@@ -2,7 +2,10 @@
 
 ghost use Rattle.nml_names.specs.Below as below;
 ghost use Rattle.nml_names.specs.Graphs.{IsOrder};
+ghost use Rattle.nml_tree.specs.Places.{least_of};
 ghost use Rattle.nml_tree.specs.Refused.{IsFreeBelow, IsTyped, IsUntyped};
+ghost use Rattle.nml_tree.specs.TypeFault.{type_fault_places};
+ghost use Rattle.nml_tree.specs.WidthFault.{width_places};
 ghost use Rattle.std.specs.Prelude.{◌≡◌, MatchResult};
 
 use nml_edges::first_edge;
@@ -71,13 +74,32 @@ fn refuse_kinds(alloc: Global, names: &Names<'_>, order: &[usize]) -> Result<(),
 {
     let worths = rule_worths(alloc, names, order)?;
     let found = first_faults(alloc, names, &worths)?;
-    if let Some(at) = found.kind {
-        return Err(DescFault::TypeFault { at: u64::from(at) });
+    refuse_kind(names, found.kind)?;
+    refuse_width(names, found.width)
+}
+
+/// Refuses the least place of a fault of kind.
+fn refuse_kind(names: &Names<'_>, found: Option<u32>) -> Result<(), DescFault>
+    requires free { IsFreeBelow 6 names.now }
+    requires is { found ≡ least_of (type_fault_places names.now) }
+    ensures { MatchResult result (λ done. IsFreeBelow 7 names.now) (λ f. IsUntyped names.now f) }
+{
+    match found {
+        None => Ok(()),
+        Some(at) => Err(DescFault::TypeFault { at: u64::from(at) }),
     }
-    if let Some(at) = found.width {
-        return Err(DescFault::Width { at: u64::from(at) });
+}
+
+/// Refuses the least place of a fault of width.
+fn refuse_width(names: &Names<'_>, found: Option<u32>) -> Result<(), DescFault>
+    requires free { IsFreeBelow 7 names.now }
+    requires is { found ≡ least_of (width_places names.now) }
+    ensures { MatchResult result (λ done. IsFreeBelow 8 names.now) (λ f. IsUntyped names.now f) }
+{
+    match found {
+        None => Ok(()),
+        Some(at) => Err(DescFault::Width { at: u64::from(at) }),
     }
-    Ok(())
 }
 
 /// Refuses a parameter that isn't named as often as it must be.
