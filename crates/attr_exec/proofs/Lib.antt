@@ -8,3 +8,4 @@ pub mod Top
 pub mod Ports
 pub mod OutPort
 pub mod Truths
+pub mod Suited
