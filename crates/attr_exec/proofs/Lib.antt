@@ -9,3 +9,4 @@ pub mod Ports
 pub mod OutPort
 pub mod Truths
 pub mod Suited
+pub mod Placed

@@ -1,6 +1,6 @@
 -- What statements assign suits its places, where each name that is assigned stands for a place of its kind.
-use Rattle.std.proofs.Common.{ℕ, List, [], ◌++◌, ◌≡◌, ◌≤ℤ◌, ◌×◌, ℤ, pos, negsuc, map, arith, refl, sym, ◌∙◌, ap, subst, Some, None, Option, Bool, true, false}
-use Rattle.std.specs.Prelude.{slice_get, if◌then◌else◌, ◌&&◌, unsigned_abs, int_le}
+use Rattle.std.proofs.Common.{ℕ, List, [], ◌++◌, ◌≡◌, ◌≤ℤ◌, ℤ, pos, negsuc, map, arith, refl, sym, ◌∙◌, ap, subst, Some, None, Option, Bool, true, false}
+use Rattle.std.specs.Prelude.{slice_get, if◌then◌else◌, ◌&&◌, unsigned_abs, int_le, nat_le}
 use Rattle.std.specs.Map.{lookup}
 use Rattle.std.proofs.lemmas.Int.{ints}
 use Rattle.std.proofs.lemmas.Bool.{le-leb}
@@ -46,7 +46,7 @@ IsPlace t zs next cells k Term.Out = IsOfKind k (out_type t)
 IsPlace t zs next cells k _ = Unit {0}
 
 wraps_bool : (z : ℤ) → InRange tys.Bool z → wraps tys.Bool z ≡ true
-wraps_bool (pos n) h = le-leb n 1 (omega (arith, ints, h.1))
+wraps_bool (pos n) h = let a : nat_le 0 n ≡ true = le-leb 0 n (omega arith) in let b : nat_le n 1 ≡ true = le-leb n 1 (omega (arith, ints, h.1)) in rw (a, b) refl
 wraps_bool (negsuc n) h = absurd (omega (arith, ints, h.0))
 
 no_number : (k : Kind) → is_other Truth k ≡ false → k ≡ Number → ⊥

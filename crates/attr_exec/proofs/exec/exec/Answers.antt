@@ -10,10 +10,10 @@ use Rattle.nml_state.proofs.Lookups.{each_right}
 use Rattle.attr_exec.specs.Does.{IsStateOf}
 use Rattle.attr_exec.specs.Ready.{NextFits}
 use Rattle.attr_exec.specs.Suits.{Suits}
-use Rattle.attr_exec.proofs.Truths.{truths}
+use Rattle.attr_exec.proofs.Truths.{truths, alternatives_alike}
 use Rattle.attr_exec.proofs.Ports.{out_is_small}
 use Rattle.attr_exec.proofs.Top.{whole, narrow_whole, pc_whole, ends_state, forgot_ends, forgot_is, finished_is, wants_is, does_is, halt_number}
-use Rattle.attr_exec.proofs.Suited.{suits_block}
+use Rattle.attr_exec.proofs.Placed.{Ground}
 use Rattle.attr_exec.proofs.exec.exec.Goals as goal
 
 pub out_type-requires : goal.out_type-requires
