@@ -25,6 +25,7 @@ use Rattle.nml_tree.proofs.Height.{picked}
 use Rattle.nml_state.specs.Cells.{Shown}
 use Rattle.nml_widths.specs.Fitting.{Each, EachValue, Everywhere, PlaceBelow, PlacesBelow, Sound, StandAt, Within}
 use Rattle.nml_widths.proofs.Fits.{AreRight, right_left, right_right, no_left, no_right, unless_none, both_left, both_right}
+use Rattle.nml_widths.proofs.ModeFits.{stand_left, stand_right, stand_behind}
 use Rattle.nml_widths.proofs.Settled.{IsSound, settled}
 use Rattle.attr_exec.specs.Seen.{view}
 use Rattle.attr_exec.specs.Suits.{IsNow, Suits}
@@ -142,3 +143,43 @@ module _ (t : Table) (zs : List ℤ) (next : Option ℤ) (cells : Cells) where
       let e : is_named_rightly (rule_scope t rule) false n ≡ true = unless_none _ n.at (no_left _ _ h) in
       place_valued (of_name (rule_scope t rule) n.text).kind (reference t parts n.text (Term.Number (pos 0))) (a.places n None e (λ c now. tt))
   value_place rule parts a (Some e) h right sound = place_valued (worth (rule_scope t rule) e).kind (term t parts e) (term_place rule parts a e right sound)
+
+  picked_place : Ground → (name : Text) (mode : Bool) (names : List Text) → declared t name ≡ Some (Declared.Or mode names) → (x : Text) → Contains names x → (p : Term) → (has_value (rule_worth t x).kind ≡ true → IsPlace t zs next cells (rule_worth t x).kind p)
+      → has_value (rule_worth t name).kind ≡ true → IsPlace t zs next cells (rule_worth t name).kind p
+  picked_place g name false names is x c p f k =
+      let e : rule_worth t name ≡ nothing = settled t g.sound.free name ∙ ap (of_rule t (rule_worth t)) is in
+      let wrong : false ≡ true = sym (ap (λ (w : Worth). has_value w.kind) e) ∙ k in
+      absurd cc
+  picked_place g name true names is x c p f k =
+      let e = alternatives_alike t g.sound g.agree name names is x c in
+      subst (λ j. IsPlace t zs next cells j p) (sym e) (f (ap has_value (sym e) ∙ k))
+
+  mutual
+    -- the action of a derivation suits its places, and a mode's value is a place of its kind where it may be assigned
+    pub derivation_suits : (x : Derivation) → Ground → (name : Text) (n : ℕ) → IsDerivation t name x → StandAt zs n (fields x)
+        → Suits t zs next cells (written.written t n x).action × (has_value (rule_worth t name).kind ≡ true → IsPlace t zs next cells (rule_worth t name).kind (written.written t n x).value)
+    derivation_suits (Pick k x) g name n h stand =
+        let rule = or_of (declared t name) t name k h.0 refl h.1 in
+        let got : slice_get rule.1 k ≡ Some h.0 = picked rule.0 rule.1 t name k h.0 rule.2 h.1 in
+        let r = derivation_suits x g h.0 n h.2 stand in
+        (r.0, picked_place g name rule.0 rule.1 rule.2 h.0 (among rule.1 k h.0 got) (written.written t n x).value r.1)
+    derivation_suits (Compose rule args) g name n h stand =
+        let right = g.sound.rules name rule h.0 in
+        let a = around g name rule args n h.0 (arguments_suit args g rule rule.pars n h.1 stand) in
+        let fits = g.fits name rule args n h stand in
+        let e : rule_worth t name ≡ of_value (rule_scope t rule) rule.value = settled t g.sound.free name ∙ ap (of_rule t (rule_worth t)) h.0 in (
+          suits_block t zs next cells rule (arguments t n args) a rule.action (g.blocks name rule h.0) (right_right (rule_scope t rule) (inside_value rule.value) (inside_block rule.action) right.reading) (λ c now. ((fits c now).0, (fits c now).1)),
+          λ has. subst (λ (w : Worth). IsPlace t zs next cells w.kind (written.value_of t (arguments t n args) rule.value)) (sym e)
+          (value_place rule (arguments t n args) a rule.value right.handed (right_left (rule_scope t rule) (inside_value rule.value) (inside_block rule.action) right.reading) (λ c now. (fits c now).2)),
+        )
+
+    pub arguments_suit : (a : Arguments) → Ground → (rule : Rule) (pars : List Par) (n : ℕ) → Fill t pars a → StandAt zs n (fields_of a)
+        → (q : Text) → Stands (rule_scope t rule) (lookup (text_eq q) (map (λ p. (p.name.text, parameter_of t p.ty)) pars)) (lookup (text_eq q) (arguments t n a))
+    arguments_suit NoMore g rule pars n h stand q = rw h tt
+    arguments_suit (Part name x args) g rule pars n h stand q =
+        let more = arguments_suit args g rule h.1 (n + length (fields x)) h.7 (stand_right zs n (fields x) (fields_of args) stand) q in
+        let here = derivation_suits x g h.2 n h.6 (stand_left zs n (fields x) (fields_of args) stand) in
+        rw (h.3, h.4, h.5) (chosen (rule_scope t rule) (text_eq q name) (Some (Parameter.Part h.2)) (Argument.Part (written.written t n x)) _ _ (λ o i k. here.1 k, here.0) more)
+    arguments_suit (Field name ty z args) g rule pars n h stand q =
+        let more = arguments_suit args g rule h.1 (n + 1) h.6 (stand_behind zs n z (fields_of args) stand) q in
+        rw (h.2, h.3, h.4) (chosen (rule_scope t rule) (text_eq q name) (Some (Parameter.Field ty)) (Argument.FieldAt n) _ _ (λ o i k. tt, tt) more)
