@@ -10,3 +10,4 @@ pub mod OutPort
 pub mod Truths
 pub mod Suited
 pub mod Placed
+pub mod Grounds

@@ -49,7 +49,7 @@ module _ (t : Table) (zs : List ℤ) (next : Option ℤ) (cells : Cells) where
   abbrev Now : Shown → Type 0
   Now c = IsNow t zs next cells c
 
-  abbrev IndexFits : Option Declared → Term → Type 0
+  abbrev pub IndexFits : Option Declared → Term → Type 0
   IndexFits (Some (Declared.Storage k size u)) i = (c : Shown) → Now c → unsigned_abs (value (view zs c next) i) < size
   IndexFits _ i = Unit {0}
 

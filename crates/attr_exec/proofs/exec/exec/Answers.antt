@@ -13,7 +13,7 @@ use Rattle.attr_exec.specs.Suits.{Suits}
 use Rattle.attr_exec.proofs.Truths.{truths, alternatives_alike}
 use Rattle.attr_exec.proofs.Ports.{out_is_small}
 use Rattle.attr_exec.proofs.Top.{whole, narrow_whole, pc_whole, ends_state, forgot_ends, forgot_is, finished_is, wants_is, does_is, halt_number}
-use Rattle.attr_exec.proofs.Placed.{Ground}
+use Rattle.attr_exec.proofs.Grounds.{ground, blocks_right}
 use Rattle.attr_exec.proofs.exec.exec.Goals as goal
 
 pub out_type-requires : goal.out_type-requires
