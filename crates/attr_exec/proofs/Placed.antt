@@ -170,7 +170,7 @@ module _ (t : Table) (zs : List ℤ) (next : Option ℤ) (cells : Cells) where
         let e : rule_worth t name ≡ of_value (rule_scope t rule) rule.value = settled t g.sound.free name ∙ ap (of_rule t (rule_worth t)) h.0 in (
           suits_block t zs next cells rule (arguments t n args) a rule.action (g.blocks name rule h.0) (right_right (rule_scope t rule) (inside_value rule.value) (inside_block rule.action) right.reading) (λ c now. ((fits c now).0, (fits c now).1)),
           λ has. subst (λ (w : Worth). IsPlace t zs next cells w.kind (written.value_of t (arguments t n args) rule.value)) (sym e)
-          (value_place rule (arguments t n args) a rule.value right.handed (right_left (rule_scope t rule) (inside_value rule.value) (inside_block rule.action) right.reading) (λ c now. (fits c now).2)),
+              (value_place rule (arguments t n args) a rule.value right.handed (right_left (rule_scope t rule) (inside_value rule.value) (inside_block rule.action) right.reading) (λ c now. (fits c now).2)),
         )
 
     pub arguments_suit : (a : Arguments) → Ground → (rule : Rule) (pars : List Par) (n : ℕ) → Fill t pars a → StandAt zs n (fields_of a)
