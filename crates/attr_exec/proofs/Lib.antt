@@ -9,5 +9,6 @@ pub mod Ports
 pub mod OutPort
 pub mod Truths
 pub mod Suited
+pub mod Standing
 pub mod Placed
 pub mod Grounds

@@ -25,7 +25,7 @@ use Rattle.nml_tree.proofs.Height.{picked}
 use Rattle.nml_state.specs.Cells.{Shown}
 use Rattle.nml_widths.specs.Fitting.{Each, EachValue, Everywhere, PlaceBelow, PlacesBelow, Sound, StandAt, Within}
 use Rattle.nml_widths.proofs.Fits.{AreRight, right_left, right_right, no_left, no_right, unless_none, both_left, both_right}
-use Rattle.nml_widths.proofs.ModeFits.{stand_left, stand_right, stand_behind}
+use Rattle.attr_exec.proofs.Standing.{stand_left, stand_right, stand_behind}
 use Rattle.nml_widths.proofs.Settled.{IsSound, settled}
 use Rattle.attr_exec.specs.Seen.{view}
 use Rattle.attr_exec.specs.Suits.{IsNow, Suits}

@@ -65,15 +65,15 @@ longer : (xs ys : List ℤ) → length (xs ++ ys) ≡ length xs + length ys
 longer [] ys = omega arith
 longer (x ∷ xs) ys = omega (arith, longer xs ys)
 
-pub stand_left : (zs : List ℤ) (n : ℕ) (xs ys : List ℤ) → StandAt zs n (xs ++ ys) → StandAt zs n xs
+stand_left : (zs : List ℤ) (n : ℕ) (xs ys : List ℤ) → StandAt zs n (xs ++ ys) → StandAt zs n xs
 stand_left zs n xs ys h k low = h k (omega (arith, low, longer xs ys)) ∙ at_left xs ys k low
 
-pub stand_right : (zs : List ℤ) (n : ℕ) (xs ys : List ℤ) → StandAt zs n (xs ++ ys) → StandAt zs (n + length xs) ys
+stand_right : (zs : List ℤ) (n : ℕ) (xs ys : List ℤ) → StandAt zs n (xs ++ ys) → StandAt zs (n + length xs) ys
 stand_right zs n xs ys h k low =
     let e : n + length xs + k ≡ n + (length xs + k) = omega arith in
     ap (number_at zs) e ∙ (h (length xs + k) (omega (arith, low, longer xs ys)) ∙ at_right xs ys k)
 
-pub stand_behind : (zs : List ℤ) (n : ℕ) (y : ℤ) (ys : List ℤ) → StandAt zs n (y ∷ ys) → StandAt zs (n + 1) ys
+stand_behind : (zs : List ℤ) (n : ℕ) (y : ℤ) (ys : List ℤ) → StandAt zs n (y ∷ ys) → StandAt zs (n + 1) ys
 stand_behind zs n y ys h k low =
     let e : n + 1 + k ≡ n + suc k = omega arith in
     ap (number_at zs) e ∙ h (suc k) (omega (arith, low))
