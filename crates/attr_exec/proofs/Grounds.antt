@@ -25,7 +25,7 @@ use Rattle.attr_exec.proofs.Truths.{truths, all_agree}
 use Rattle.attr_exec.proofs.Suited.{IsPlace, IsOfKind}
 use Rattle.attr_exec.proofs.Placed.{Ground, IndexFits}
 
-of_right : (u : Ty) → is_type u ≡ true → IsOfKind (of_type u).kind u
+pub of_right : (u : Ty) → is_type u ≡ true → IsOfKind (of_type u).kind u
 of_right u h = (h, rw h refl)
 
 -- each storage has a cell, and the cells are of its size

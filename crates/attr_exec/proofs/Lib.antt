@@ -12,3 +12,6 @@ pub mod Suited
 pub mod Standing
 pub mod Placed
 pub mod Grounds
+pub mod Sizes
+pub mod OutKind
+pub mod Fitting
