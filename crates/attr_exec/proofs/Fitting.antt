@@ -1,5 +1,5 @@
 -- In a description in which all is right what an instruction does suits its places.
-use Rattle.std.proofs.Common.{ℕ, List, [], ℤ, sym, subst, Option}
+use Rattle.std.proofs.Common.{ℕ, List, ℤ, subst, Option}
 use Rattle.std.specs.Prelude.{codes}
 use Rattle.nml_tree.specs.declared.tree.Desc.{Desc}
 use Rattle.nml_tree.specs.Table.{table}
@@ -11,7 +11,7 @@ use Rattle.nml_state.specs.Cells.{Shown}
 use Rattle.nml_widths.specs.Fitting.{StandAt}
 use Rattle.nml_widths.proofs.WidthLaws.{stand_whole}
 use Rattle.attr_exec.specs.Does.{IsStateOf}
-use Rattle.attr_exec.specs.Suits.{Suits}
+use Rattle.attr_exec.proofs.Suits.{Suits}
 use Rattle.attr_exec.proofs.Placed.{derivation_suits}
 use Rattle.attr_exec.proofs.Grounds.{ground, blocks_right}
 use Rattle.attr_exec.proofs.Sizes.{sized}

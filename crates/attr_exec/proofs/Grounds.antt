@@ -1,5 +1,5 @@
 -- What a description in which all is right declares suits its places, but for its sizes, its statements and its `out`.
-use Rattle.std.proofs.Common.{ℕ, ◌<◌, ◌≤◌, List, [], ◌≡◌, ℤ, refl, sym, subst, Some, None, Option, Bool, true, false, inl, inr, arith}
+use Rattle.std.proofs.Common.{ℕ, ◌<◌, ◌≤◌, List, [], ◌≡◌, ℤ, refl, sym, subst, Some, None, Option, true, inl, inr, arith}
 use Rattle.std.specs.Prelude.{unsigned_abs}
 use Rattle.nk_base.specs.declared.number.Ty.{Ty}
 use Rattle.nml_tree.specs.declared.tree.Desc.{Desc}
@@ -12,7 +12,7 @@ use Rattle.attr_exec.proofs.Ports.{placed, none_from, flat_none}
 use Rattle.nml_tree.specs.Table.{Text, Table, Rule, Declared, declared, table, entry, port_of}
 use Rattle.nml_tree.specs.Act.{Term}
 use Rattle.nml_tree.specs.Worth.{is_type, of_type, of_declared, rule_scope}
-use Rattle.nml_tree.specs.TypeFault.{has_value, block_places, rule_places, item_places, type_fault_places}
+use Rattle.nml_tree.specs.TypeFault.{block_places, rule_places, item_places, type_fault_places}
 use Rattle.nml_tree.specs.Written.{source}
 use Rattle.nml_tree.specs.Value.{Cells, value}
 use Rattle.nml_tree.specs.Exec.{out_type}

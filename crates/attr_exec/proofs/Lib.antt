@@ -1,3 +1,4 @@
+pub mod Suits
 pub mod Reading
 pub mod Counting
 pub mod Running

@@ -1,5 +1,5 @@
 -- What a derivation does suits its places, where what is declared does.
-use Rattle.std.proofs.Common.{ℕ, zero, suc, ◌+◌, ◌<◌, ◌≤◌, List, [], ◌∷◌, ◌++◌, ◌≡◌, ℤ, pos, length, map, arith, refl, sym, ◌∙◌, ap, subst, Some, None, Option, Bool, true, false, cond, Contains}
+use Rattle.std.proofs.Common.{ℕ, zero, suc, ◌+◌, ◌<◌, ◌≤◌, List, [], ◌∷◌, ◌≡◌, ℤ, pos, length, map, arith, refl, sym, ◌∙◌, ap, subst, Some, None, Option, Bool, true, false, cond, Contains}
 use Rattle.std.specs.Prelude.{slice_get, unsigned_abs, flat_map}
 use Rattle.std.specs.Map.{lookup}
 use Rattle.nk_base.specs.Text.{text_eq}
@@ -15,20 +15,20 @@ use Rattle.nml_tree.specs.Table.{Text, Table, Rule, Declared, declared, Paramete
 use Rattle.nml_tree.specs.Derivation.{Derivation, Arguments, Pick, Compose, NoMore, Part, Field, IsDerivation, Fill, fields, fields_of}
 use Rattle.nml_tree.specs.Inside.{inside, inside_value, inside_block, handed_on}
 use Rattle.nml_tree.specs.Act.{Term, Cell, Trn}
-use Rattle.nml_tree.specs.Worth.{Kind, Number, Truth, Unknown, Nothing, Worth, Scope, nothing, of_ty, of_declared, of_parameter, of_entry, of_name, of_rule, of_value, valued, worth, rule_worth, rule_scope}
+use Rattle.nml_tree.specs.Worth.{Kind, Number, Worth, Scope, nothing, of_ty, of_declared, of_parameter, of_entry, of_name, of_rule, of_value, valued, worth, rule_worth, rule_scope}
 use Rattle.nml_tree.specs.TypeFault.{has_value, may_have_index, is_indexed, is_named_rightly, is_read_rightly, value_places, block_places}
 use Rattle.nml_tree.specs.Written as written
 use Rattle.nml_tree.specs.Written.{Argument, FieldAt, source, named, reference, index_term, term, action_of, arguments}
-use Rattle.nml_tree.specs.Value.{Cells, View, value}
+use Rattle.nml_tree.specs.Value.{Cells, value}
 use Rattle.nml_tree.proofs.OneDerivation.{or_of}
 use Rattle.nml_tree.proofs.Height.{picked}
 use Rattle.nml_state.specs.Cells.{Shown}
 use Rattle.nml_widths.specs.Fitting.{Each, EachValue, Everywhere, PlaceBelow, PlacesBelow, Sound, StandAt, Within}
-use Rattle.nml_widths.proofs.Fits.{AreRight, right_left, right_right, no_left, no_right, unless_none, both_left, both_right}
+use Rattle.nml_widths.proofs.Fits.{AreRight, right_left, right_right, no_left, unless_none, both_left, both_right}
 use Rattle.attr_exec.proofs.Standing.{stand_left, stand_right, stand_behind}
 use Rattle.nml_widths.proofs.Settled.{IsSound, settled}
 use Rattle.attr_exec.specs.Seen.{view}
-use Rattle.attr_exec.specs.Suits.{IsNow, Suits}
+use Rattle.attr_exec.proofs.Suits.{IsNow, Suits}
 use Rattle.attr_exec.proofs.Truths.{Agrees, alternatives_alike}
 use Rattle.attr_exec.proofs.Suited.{IsPlace, IsOfKind, Around, suits_block}
 

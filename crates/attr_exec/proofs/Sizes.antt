@@ -1,6 +1,6 @@
 -- In a description in which names and types are right each storage has a cell, and a state of it has the cells that are declared.
 use Rattle.std.proofs.Common.{◌≡◌, ℕ, zero, suc, ◌≤◌, ◌<◌, ℤ, pos, negsuc, refl, ap, sym, ◌∙◌, subst, arith, List, [], ◌∷◌, ◌++◌, map, length, Option, Some, None, Bool, true, false, cond, append-nil, append_assoc, ◌⊎◌, inl, inr}
-use Rattle.std.specs.Prelude.{flat_map, ◌&&◌, ◌||◌, option_and_then, unwrap_or, slice_get, int_le, nat_lt}
+use Rattle.std.specs.Prelude.{flat_map, ◌||◌, option_and_then, unwrap_or, slice_get, int_le}
 use Rattle.std.proofs.lemmas.Int.{ints}
 use Rattle.std.proofs.lemmas.Bool.{lt-ltb}
 use Rattle.std.proofs.lemmas.Grind.{flat_map-append}
@@ -14,7 +14,7 @@ use Rattle.nml_tree.specs.declared.tree.PortWord.TheVariants as port
 use Rattle.nml_tree.specs.declared.tree.Item.{Item}
 use Rattle.nml_tree.specs.declared.tree.Item.TheVariants as item
 use Rattle.nml_tree.specs.declared.tree.Desc.{Desc}
-use Rattle.nml_tree.specs.Table.{Text, Table, Declared, declared, table, entry, entries, constant, natural, size_number, size_or_none, port_of}
+use Rattle.nml_tree.specs.Table.{Text, Table, Declared, declared, table, entry, entries, constant, natural, size_number, port_of}
 use Rattle.nml_tree.specs.Uses.{declares, parameters, in_size, in_type}
 use Rattle.nml_tree.specs.Places.{unless}
 use Rattle.nml_tree.specs.NameFault.{is_among, is_known, may_stand_behind, unknown_places, item_name_places, name_places_from, name_places}
@@ -146,7 +146,7 @@ cells_from (i ∷ items) earlier all is have names types =
     let one = item_cells earlier (i ∷ items) i (subst (λ xs. unknown_places (entries [] xs) earlier i ≡ []) is known) (subst (λ xs. item_places (entries [] xs) i ≡ []) is places) in
     let next : entries [] (earlier ++ i ∷ []) ≡ entries [] earlier ++ entry (entries [] earlier) i ∷ [] = entries_append earlier (i ∷ []) [] in
     let more : HaveCells (entries [] earlier ++ entry (entries [] earlier) i ∷ []) =
-        λ q n k u e. elim (lookup_last (entries [] earlier) (entry (entries [] earlier) i) q _ e) [ inl old ↦ have q n k u old | inr new ↦ one n k u new ] in
+    λ q n k u e. elim (lookup_last (entries [] earlier) (entry (entries [] earlier) i) q _ e) [ inl old ↦ have q n k u old | inr new ↦ one n k u new ] in
     cells_from items (earlier ++ i ∷ []) all (is ∙ sym (append_assoc earlier (i ∷ []) items)) (subst HaveCells (sym next) more) (no_right (item_name_places (entries [] all) all earlier i) _ names) (no_right (item_places (entries [] all) i) _ types)
 
 have_cells : (d : Desc) → IsFreeBelow 8 d → HaveCells (table d)

@@ -1,6 +1,6 @@
 -- What statements assign suits its places, where each name that is assigned stands for a place of its kind.
-use Rattle.std.proofs.Common.{ℕ, List, [], ◌++◌, ◌≡◌, ◌≤ℤ◌, ℤ, pos, negsuc, map, arith, refl, sym, ◌∙◌, ap, subst, Some, None, Option, Bool, true, false}
-use Rattle.std.specs.Prelude.{slice_get, if◌then◌else◌, ◌&&◌, unsigned_abs, int_le, nat_le}
+use Rattle.std.proofs.Common.{List, [], ◌++◌, ◌≡◌, ℤ, pos, negsuc, map, arith, refl, sym, ◌∙◌, ap, subst, Some, Option, Bool, true, false}
+use Rattle.std.specs.Prelude.{slice_get, if◌then◌else◌, ◌&&◌, unsigned_abs, nat_le}
 use Rattle.std.specs.Map.{lookup}
 use Rattle.std.proofs.lemmas.Int.{ints}
 use Rattle.std.proofs.lemmas.Bool.{le-leb}
@@ -21,7 +21,7 @@ use Rattle.nml_tree.specs.TypeFault.{place_kind, is_indexed, is_named_rightly, i
 use Rattle.nml_tree.specs.Directives.{is_part, parameter}
 use Rattle.nml_tree.specs.Act as act
 use Rattle.nml_tree.specs.Act.{Term, Act, Cell, Trn, followed, assigned}
-use Rattle.nml_tree.specs.Value.{Cells, View, value}
+use Rattle.nml_tree.specs.Value.{Cells, value}
 use Rattle.nml_tree.specs.Exec.{storages, trn_types, out_type}
 use Rattle.nml_tree.specs.Written as written
 use Rattle.nml_tree.specs.Written.{reference, index_term, term, action_of}
@@ -30,7 +30,7 @@ use Rattle.nml_state.specs.Wrapping.{has_cell, wraps, wraps_into}
 use Rattle.nml_widths.specs.Fitting.{Each, Everywhere, PlaceBelow, PlacesBelow, Sound, Within}
 use Rattle.nml_widths.proofs.Fits.{AreRight, right_left, right_right, no_left, no_right, unless_none, when_none, both_left, both_right}
 use Rattle.attr_exec.specs.Seen.{view}
-use Rattle.attr_exec.specs.Suits.{IsNow, Suits}
+use Rattle.attr_exec.proofs.Suits.{IsNow, Suits}
 
 -- a type that may stand in a place of this kind
 abbrev pub IsOfKind : Kind → Ty → Type 0

@@ -1,5 +1,5 @@
 -- Where N4 to N7 fail, what is true or false is worth at most 1.
-use Rattle.std.proofs.Common.{◌≡◌, ℕ, zero, suc, ◌+◌, ◌≤◌, ◌<◌, max, ℤ, pos, negsuc, ◌≤ℤ◌, refl, ap, sym, ◌∙◌, subst, arith, List, [], ◌∷◌, ◌++◌, length, map, Option, Some, None, Bool, true, false, Contains, ◌⊎◌, inl, inr}
+use Rattle.std.proofs.Common.{◌≡◌, ℕ, zero, suc, ◌≤◌, max, ℤ, pos, negsuc, ◌≤ℤ◌, refl, ap, sym, ◌∙◌, subst, arith, List, [], ◌∷◌, ◌++◌, length, map, Option, Some, None, Bool, true, false, Contains, ◌⊎◌, inl, inr}
 use Rattle.std.specs.Prelude.{IsSome, if◌then◌else◌, filter, flat_map, option_map}
 use Rattle.std.specs.Map.{lookup}
 use Rattle.std.proofs.lemmas.Int.{ints}
@@ -17,16 +17,15 @@ use Rattle.nml_tree.specs.declared.tree.Item.TheVariants as item
 use Rattle.nml_tree.specs.declared.tree.Desc.{Desc}
 use Rattle.nml_tree.specs.declared.tree.PortWord.{PortWord}
 use Rattle.nml_tree.specs.declared.tree.PortWord.TheVariants as port
-use Rattle.nml_tree.specs.declared.tree.Par.{Par}
 use Rattle.nml_tree.specs.declared.tree.TypeExpr.{TypeExpr}
 use Rattle.nml_tree.specs.declared.tree.TypeExpr.TheVariants as type_expr
 use Rattle.nml_tree.specs.Formula as formula
 use Rattle.nml_tree.specs.Formula.{Formula, Prefix}
-use Rattle.nml_tree.specs.Table.{Text, Table, Rule, Declared, declared, table, entry, port_of, is_mode_word, Parameter, parameter_of, parameter_named, type_of, size_number, size_or_none}
+use Rattle.nml_tree.specs.Table.{Text, Table, Rule, Declared, declared, table, entry, port_of, is_mode_word, Parameter, parameter_of, parameter_named, type_of, size_number}
 use Rattle.nml_tree.specs.Reach.{IsBelow, CycleFault}
 use Rattle.nml_tree.specs.Inside.{inside, inside_value, inside_block, handed_on}
 use Rattle.nml_tree.specs.Places.{when}
-use Rattle.nml_tree.specs.Worth.{Kind, Number, Truth, Unknown, Nothing, Cap, UpTo, Worth, unknown, worth_of, is_known, is_other, known_first, greater_cap, sides, either, is_type, of_ty, of_number, of_type, of_fit, as_number, of_bits, of_run, are_bits, number, of_mode, valued, of_value, of_rule, is_rule, greatest, of_binary, of_prefix, of_entry, of_name, of_declared, Scope, worth, rule_worth, rule_scope}
+use Rattle.nml_tree.specs.Worth.{Kind, Number, Truth, Unknown, Nothing, UpTo, Worth, unknown, worth_of, is_known, is_other, known_first, greater_cap, sides, either, is_type, of_ty, of_number, of_type, of_bits, are_bits, of_mode, valued, of_value, of_rule, is_rule, greatest, of_binary, of_prefix, of_entry, of_name, of_declared, Scope, worth, rule_worth, rule_scope}
 use Rattle.nml_tree.specs.TypeFault.{has_value, is_rule_of, is_read_rightly, is_named_rightly, value_places, alternative_places, item_places, type_fault_places}
 use Rattle.nml_tree.specs.Refused.{IsFreeBelow, By_type}
 use Rattle.nml_widths.proofs.WidthLaws.{is_sound}
