@@ -22,7 +22,7 @@ use Rattle.attr_eval.specs.Lawful.{Shape, Once, Then, Either, term_shape, act_sh
 use Rattle.attr_exec.specs.declared.look.Spot.TheVariants as spot
 use Rattle.attr_exec.specs.Seen.{view, seen}
 use Rattle.attr_exec.specs.Ran.{Scene, ran, given, looked_at, halted_with}
-use Rattle.attr_exec.specs.Suits.{IsNow, Suits, course_of}
+use Rattle.attr_exec.proofs.Suits.{IsNow, Suits, course_of}
 use Rattle.attr_exec.specs.Ready.{IsLawful}
 
 left : (a b : Bool) → (a && b) ≡ true → a ≡ true

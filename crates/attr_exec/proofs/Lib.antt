@@ -1,3 +1,4 @@
+pub mod Suits
 pub mod Reading
 pub mod Counting
 pub mod Running
@@ -8,3 +9,10 @@ pub mod Top
 pub mod Ports
 pub mod OutPort
 pub mod Truths
+pub mod Suited
+pub mod Standing
+pub mod Placed
+pub mod Grounds
+pub mod Sizes
+pub mod OutKind
+pub mod Fitting

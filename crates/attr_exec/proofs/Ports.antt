@@ -67,7 +67,7 @@ placed (i ∷ items) t name x h =
     ]
 
 -- what a table declares is kept in a longer one
-abbrev Kept : Table → Table → Type 0
+abbrev pub Kept : Table → Table → Type 0
 Kept t u = (name : Text) (x : Declared) → declared t name ≡ Some x → declared u name ≡ Some x
 
 option_kept : {A : Type 0} (f : Declared → Option A) (o p : Option Declared) (k : A) → ((x : Declared) → o ≡ Some x → p ≡ Some x) → option_and_then f o ≡ Some k → option_and_then f p ≡ Some k
@@ -90,7 +90,7 @@ fix_kept : (o p q r : Option ℕ) (ty : Ty) → ((k : ℕ) → o ≡ Some k → 
 fix_kept None p q r ty g k h = absurd cc
 fix_kept (Some a) p q r ty g k h = rw (g a refl) (map_kept (λ b. tys.Int (a + b)) q r ty k h)
 
-type_kept : (t u : Table) (e : TypeExpr) (ty : Ty) → Kept t u → type_of t e ≡ Some ty → type_of u e ≡ Some ty
+pub type_kept : (t u : Table) (e : TypeExpr) (ty : Ty) → Kept t u → type_of t e ≡ Some ty → type_of u e ≡ Some ty
 type_kept t u (type_expr.Bool at) ty g h = h
 type_kept t u (type_expr.Card at p n q) ty g h = map_kept tys.Card (size_of t n) (size_of u n) ty (λ k. size_kept t u n k g) h
 type_kept t u (type_expr.Int at p n q) ty g h = map_kept tys.Int (size_of t n) (size_of u n) ty (λ k. size_kept t u n k g) h

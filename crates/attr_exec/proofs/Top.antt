@@ -38,7 +38,7 @@ use Rattle.attr_eval.proofs.AllPaths.{lawful_legal}
 use Rattle.attr_exec.specs.declared.give.Done.{Done}
 use Rattle.attr_exec.specs.Seen.{view}
 use Rattle.attr_exec.specs.Ran.{Scene, scene, ran, Same, put_out, given}
-use Rattle.attr_exec.specs.Suits.{IsNow, Suits, course_of}
+use Rattle.attr_exec.proofs.Suits.{IsNow, Suits, course_of}
 use Rattle.attr_exec.specs.Ready.{IsLawful, Ready, NextFits}
 use Rattle.attr_exec.specs.Does.{DoesExec, IsStateOf, HasPc, IsNarrow, WithinType, IsPort, Ends}
 use Rattle.attr_exec.proofs.Agrees.{agrees, wrapped_in, AllMiss}

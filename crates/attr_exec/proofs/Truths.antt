@@ -1,5 +1,5 @@
 -- Where N4 to N7 fail, what is true or false is worth at most 1.
-use Rattle.std.proofs.Common.{◌≡◌, ℕ, zero, suc, ◌+◌, ◌≤◌, ◌<◌, max, ℤ, pos, negsuc, ◌≤ℤ◌, refl, ap, sym, ◌∙◌, subst, arith, List, [], ◌∷◌, ◌++◌, length, map, Option, Some, None, Bool, true, false, Contains, ◌⊎◌, inl, inr}
+use Rattle.std.proofs.Common.{◌≡◌, ℕ, zero, suc, ◌≤◌, max, ℤ, pos, negsuc, ◌≤ℤ◌, refl, ap, sym, ◌∙◌, subst, arith, List, [], ◌∷◌, ◌++◌, length, map, Option, Some, None, Bool, true, false, Contains, ◌⊎◌, inl, inr}
 use Rattle.std.specs.Prelude.{IsSome, if◌then◌else◌, filter, flat_map, option_map}
 use Rattle.std.specs.Map.{lookup}
 use Rattle.std.proofs.lemmas.Int.{ints}
@@ -17,16 +17,15 @@ use Rattle.nml_tree.specs.declared.tree.Item.TheVariants as item
 use Rattle.nml_tree.specs.declared.tree.Desc.{Desc}
 use Rattle.nml_tree.specs.declared.tree.PortWord.{PortWord}
 use Rattle.nml_tree.specs.declared.tree.PortWord.TheVariants as port
-use Rattle.nml_tree.specs.declared.tree.Par.{Par}
 use Rattle.nml_tree.specs.declared.tree.TypeExpr.{TypeExpr}
 use Rattle.nml_tree.specs.declared.tree.TypeExpr.TheVariants as type_expr
 use Rattle.nml_tree.specs.Formula as formula
 use Rattle.nml_tree.specs.Formula.{Formula, Prefix}
-use Rattle.nml_tree.specs.Table.{Text, Table, Rule, Declared, declared, table, entry, port_of, is_mode_word, Parameter, parameter_of, parameter_named, type_of, size_number, size_or_none}
+use Rattle.nml_tree.specs.Table.{Text, Table, Rule, Declared, declared, table, entry, port_of, is_mode_word, Parameter, parameter_of, parameter_named, type_of, size_number}
 use Rattle.nml_tree.specs.Reach.{IsBelow, CycleFault}
 use Rattle.nml_tree.specs.Inside.{inside, inside_value, inside_block, handed_on}
 use Rattle.nml_tree.specs.Places.{when}
-use Rattle.nml_tree.specs.Worth.{Kind, Number, Truth, Unknown, Nothing, Cap, UpTo, Worth, unknown, worth_of, is_known, is_other, known_first, greater_cap, sides, either, is_type, of_ty, of_number, of_type, of_fit, as_number, of_bits, of_run, are_bits, number, of_mode, valued, of_value, of_rule, is_rule, greatest, of_binary, of_prefix, of_entry, of_name, of_declared, Scope, worth, rule_worth, rule_scope}
+use Rattle.nml_tree.specs.Worth.{Kind, Number, Truth, Unknown, Nothing, UpTo, Worth, unknown, worth_of, is_known, is_other, known_first, greater_cap, sides, either, is_type, of_ty, of_number, of_type, of_bits, are_bits, of_mode, valued, of_value, of_rule, is_rule, greatest, of_binary, of_prefix, of_entry, of_name, of_declared, Scope, worth, rule_worth, rule_scope}
 use Rattle.nml_tree.specs.TypeFault.{has_value, is_rule_of, is_read_rightly, is_named_rightly, value_places, alternative_places, item_places, type_fault_places}
 use Rattle.nml_tree.specs.Refused.{IsFreeBelow, By_type}
 use Rattle.nml_widths.proofs.WidthLaws.{is_sound}
@@ -196,18 +195,23 @@ in_names t [] u c = absurd (omega (arith, c.1))
 in_names t (n ∷ ns) u (zero, low, is) = (n, (0, omega arith, refl), is)
 in_names t (n ∷ ns) u (suc k, low, is) = let r = in_names t ns u (k, omega (arith, low), is) in (r.0, (suc r.1.0, omega (arith, r.1.1), r.1.2), r.2)
 
-good_alternatives : (t : Table) (n : Name) (ns : List Name) → alternative_places t true Unknown (n ∷ ns) ≡ [] → AllGood t (n ∷ ns) → Good (greatest (map (rule_worth t) (map (λ m. m.text) (n ∷ ns))))
-good_alternatives t n ns h all =
+-- each of them is of the first's kind
+alternative_kind : (t : Table) (n : Name) (ns : List Name) → alternative_places t true Unknown (n ∷ ns) ≡ [] → AllGood t (n ∷ ns) → (u : Worth) → Contains (map (rule_worth t) (map (λ m. m.text) (n ∷ ns))) u → Good u × (u.kind ≡ (rule_worth t n.text).kind)
+alternative_kind t n ns h all u c =
     let a = all n (0, omega arith, refl) in
     let k = (rule_worth t n.text).kind in
     let fine = known (rule_worth t n.text) a.1 in
     let p = places_of t Unknown n ns a.0 h in
-    let kinds = kinds_are t k ns fine p.1 (λ m c. all m (suc c.0, omega (arith, c.1), c.2)) in
-    (good_greatest (rule_worth t n.text) (map (rule_worth t) (map (λ m. m.text) ns)) k fine (λ u c. one u (in_names t (n ∷ ns) u c) kinds)).0
+    one u (in_names t (n ∷ ns) u c) (kinds_are t k ns fine p.1 (λ m c. all m (suc c.0, omega (arith, c.1), c.2)))
   where
     one : (u : Worth) → (m : Name) × Contains (n ∷ ns) m × (rule_worth t m.text ≡ u) → ((m : Name) → Contains ns m → (rule_worth t m.text).kind ≡ (rule_worth t n.text).kind) → Good u × (u.kind ≡ (rule_worth t n.text).kind)
     one u (m, (zero, low, is), e) kinds = let e2 : rule_worth t n.text ≡ u = ap (λ q. rule_worth t q.text) is ∙ e in (subst Good e2 (all n (0, omega arith, refl)).1, ap (λ w. w.kind) (sym e2))
     one u (m, (suc i, low, is), e) kinds = (subst Good e (all m (suc i, low, is)).1, ap (λ w. w.kind) (sym e) ∙ kinds m (i, omega (arith, low), is))
+
+good_alternatives : (t : Table) (n : Name) (ns : List Name) → alternative_places t true Unknown (n ∷ ns) ≡ [] → AllGood t (n ∷ ns)
+    → Good (greatest (map (rule_worth t) (map (λ m. m.text) (n ∷ ns)))) × ((greatest (map (rule_worth t) (map (λ m. m.text) (n ∷ ns)))).kind ≡ (rule_worth t n.text).kind)
+good_alternatives t n ns h all =
+    good_greatest (rule_worth t n.text) (map (rule_worth t) (map (λ m. m.text) ns)) (rule_worth t n.text).kind (known (rule_worth t n.text) (all n (0, omega arith, refl)).1) (alternative_kind t n ns h all)
 
 -- what a value of such a worth is
 pub is_truth : (w : Worth) (z : ℤ) → Good w → (w.kind ≡ Number → ⊥) → Within w.cap z → InRange tys.Bool z
@@ -313,7 +317,7 @@ good_of_rule t sound agree a below (Some (Declared.Or true names)) is k r =
     let kept : filter (λ y. is_rule (declared t y)) names ≡ names = all_kept (λ y. is_rule (declared t y)) names (λ y c. rule_or_rule (declared t y) (sound.alternatives a names is y c)) in
     let all : AllGood t (g.0 ∷ g.1) = λ m c. (let among = subst (λ (xs : List Text). Contains xs m.text) g.2 (in_texts (g.0 ∷ g.1) m c) in let rule = sound.alternatives a names is m.text among in (rule, below m.text (IsBelow.Alternative true names is among) (rule_or_rule (declared t m.text) rule) (has_kind t sound m.text rule))) in
     good_mode (greatest (map (rule_worth t) (filter (λ y. is_rule (declared t y)) names)))
-    (subst (λ (xs : List Text). Good (greatest (map (rule_worth t) xs))) (g.2 ∙ sym kept) (good_alternatives t g.0 g.1 g.3 all))
+    (subst (λ (xs : List Text). Good (greatest (map (rule_worth t) xs))) (g.2 ∙ sym kept) (good_alternatives t g.0 g.1 g.3 all).0)
 good_of_rule t sound agree a below (Some (Declared.And rule)) is k r =
     let right = sound.rules a rule is in
     good_rule_value (rule_scope t rule) (λ q h. entry_good t sound a rule is below q _ refl h) rule.value right.handed (right_left (rule_scope t rule) (inside_value rule.value) (inside_block rule.action) right.reading) k
@@ -328,6 +332,28 @@ good_within (suc n) t sound agree a h r k =
 -- each mode is a number, or true or false
 pub good_rules : (t : Table) → IsSound t → Agrees t → (name : Text) → is_rule_of true (declared t name) ≡ true → Good (rule_worth t name)
 good_rules t sound agree name h = good_within (length t) t sound agree name (chain_within t sound.free name) (rule_or_rule (declared t name) h) (has_kind t sound name h)
+
+in_map : (f : Text → Worth) (xs : List Text) (x : Text) → Contains xs x → Contains (map f xs) (f x)
+in_map f [] x c = absurd (omega (arith, c.1))
+in_map f (y ∷ ys) x (zero, low, is) = (0, omega arith, ap f is)
+in_map f (y ∷ ys) x (suc k, low, is) = let c = in_map f ys x (k, omega (arith, low), is) in (suc c.0, omega (arith, c.1), c.2)
+
+valued_known : (k : Kind) → is_known k ≡ true → valued k ≡ k
+valued_known Number h = refl
+valued_known Truth h = refl
+valued_known Unknown h = absurd cc
+valued_known Nothing h = absurd cc
+
+-- an alternative of a mode is of the mode's kind
+pub alternatives_alike : (t : Table) → IsSound t → Agrees t → (name : Text) (names : List Text) → declared t name ≡ Some (Declared.Or true names) → (chosen : Text) → Contains names chosen → (rule_worth t name).kind ≡ (rule_worth t chosen).kind
+alternatives_alike t sound agree name names is chosen c =
+    let g = agree name names is in
+    let kept : filter (λ y. is_rule (declared t y)) names ≡ names = all_kept (λ y. is_rule (declared t y)) names (λ y c. rule_or_rule (declared t y) (sound.alternatives name names is y c)) in
+    let all : AllGood t (g.0 ∷ g.1) = λ m c. (let rule = sound.alternatives name names is m.text (subst (λ (xs : List Text). Contains xs m.text) g.2 (in_texts (g.0 ∷ g.1) m c)) in (rule, good_rules t sound agree m.text rule)) in
+    let most = good_alternatives t g.0 g.1 g.3 all in
+    let one = alternative_kind t g.0 g.1 g.3 all (rule_worth t chosen) (in_map (rule_worth t) (map (λ m. m.text) (g.0 ∷ g.1)) chosen (subst (λ (xs : List Text). Contains xs chosen) (sym g.2) c)) in
+    ap (λ (w : Worth). w.kind) (settled t sound.free name ∙ ap (of_rule t (rule_worth t)) is)
+    ∙ (ap (λ (xs : List Text). valued (greatest (map (rule_worth t) xs)).kind) (kept ∙ sym g.2) ∙ (valued_known (greatest (map (rule_worth t) (map (λ m. m.text) (g.0 ∷ g.1)))).kind (known (greatest (map (rule_worth t) (map (λ m. m.text) (g.0 ∷ g.1)))) most.0) ∙ (most.1 ∙ sym one.1)))
 
 -- and each name in a rule
 pub names_good : (t : Table) → IsSound t → Agrees t → (a : Text) (rule : Rule) → declared t a ≡ Some (Declared.And rule) → NamesGood (rule_scope t rule)

@@ -1,5 +1,4 @@
 pub mod Seen
 pub mod Ran
 pub mod Ready
-pub mod Suits
 pub mod Does

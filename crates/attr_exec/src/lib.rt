@@ -2,11 +2,13 @@
 #![tactic(auto)]
 
 mod count;
-mod exec;
 mod finish;
 mod give;
+mod instruction;
 mod look;
 mod port;
 mod read;
 mod run;
 mod statement;
+
+pub use instruction::exec;

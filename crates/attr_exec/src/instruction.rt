@@ -3,13 +3,11 @@
 ghost use Rattle.std.specs.Prelude.{◌≡◌, ◌&&◌, [], ℕ, ℤ, codes, false, is_none, true};
 ghost use Rattle.attr_exec.specs.Does.{DoesExec, IsStateOf};
 ghost use Rattle.attr_exec.specs.Ready.{NextFits};
-ghost use Rattle.attr_exec.specs.Suits.{Suits};
 ghost use Rattle.nml_tree.specs.Derivation.{Derivation};
 ghost use Rattle.nml_tree.specs.Exec as spec;
 ghost use Rattle.nml_tree.specs.Legal.{IsLegal};
 ghost use Rattle.nml_tree.specs.Table.{table};
 ghost use Rattle.nml_tree.specs.Walk.{IsWalkOf};
-ghost use Rattle.nml_tree.specs.Written.{action};
 
 use crate::finish::{answer, finish};
 use crate::give::Done;
@@ -28,7 +26,7 @@ pub fn exec(d: &Typed, v: &Deriv, s: &mut State, next: Option<i64>) -> Exec
     requires state { IsStateOf (table d.now) s.old }
     requires next { NextFits (table d.now) next }
     ensures state { IsStateOf (table d.now) s.new }
-    ensures done { (x : Derivation) → IsWalkOf (table d.now) (codes "instruction") v.now.picks.items v.now.fields.items x → IsLegal (table d.now) x → Suits (table d.now) v.now.fields.items next s.old.cells (action (table d.now) x) → DoesExec (table d.now) (spec.exec (table d.now) x s.old.cells next) result s.old s.new }
+    ensures done { (x : Derivation) → IsWalkOf (table d.now) (codes "instruction") v.now.picks.items v.now.fields.items x → IsLegal (table d.now) x → DoesExec (table d.now) (spec.exec (table d.now) x s.old.cells next) result s.old s.new }
 {
     s.values_fit();
     let items = d.desc.items.as_slice();

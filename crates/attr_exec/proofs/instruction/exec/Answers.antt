@@ -4,16 +4,14 @@ use Rattle.nml_tree.specs.Table.{table}
 use Rattle.nml_tree.specs.Legal.{IsLegal}
 use Rattle.nml_tree.specs.Refused.{IsTyped}
 use Rattle.nml_tree.specs.Walk.{IsWalkOf}
-use Rattle.nml_tree.specs.Written.{action}
 use Rattle.nml_tree.specs.Exec.{out_type}
 use Rattle.nml_state.proofs.Lookups.{each_right}
 use Rattle.attr_exec.specs.Does.{IsStateOf}
 use Rattle.attr_exec.specs.Ready.{NextFits}
-use Rattle.attr_exec.specs.Suits.{Suits}
-use Rattle.attr_exec.proofs.Truths.{truths}
 use Rattle.attr_exec.proofs.Ports.{out_is_small}
 use Rattle.attr_exec.proofs.Top.{whole, narrow_whole, pc_whole, ends_state, forgot_ends, forgot_is, finished_is, wants_is, does_is, halt_number}
-use Rattle.attr_exec.proofs.exec.exec.Goals as goal
+use Rattle.attr_exec.proofs.Fitting.{suits}
+use Rattle.attr_exec.proofs.instruction.exec.Goals as goal
 
 pub out_type-requires : goal.out_type-requires
 out_type-requires c =
@@ -27,13 +25,13 @@ pub returns-clause-state : goal.returns-clause-state
 returns-clause-state c = ends_state _ c.args.s.now c.run-done.new.s c.finish.new.s c.requires.state c.run-done.ensures.same c.finish.ensures.ends
 
 pub returns-then-wants-clause-done : goal.returns-then-wants-clause-done
-returns-then-wants-clause-done c = λ x w legal suits.
+returns-then-wants-clause-done c = λ x w legal.
     let typed : IsTyped c.d.inside.desc = c.d.invariant in
     let state : IsStateOf (table c.d.inside.desc) c.args.s.now = rw (← c.d.view_is) at c.requires.state in
     let fits : NextFits (table c.d.inside.desc) c.args.next = rw (← c.d.view_is) at c.requires.next in
     let v : IsWalkOf (table c.d.inside.desc) (codes "instruction") c.args.v.now.picks.items c.args.v.now.fields.items x = rw (← c.d.view_is) at w in
     let l : IsLegal (table c.d.inside.desc) x = rw (← c.d.view_is) at legal in
-    let u : Suits (table c.d.inside.desc) c.args.v.now.fields.items c.args.next c.args.s.now.cells (action (table c.d.inside.desc) x) = rw (← c.d.view_is) at suits in
+    let u = suits c.d.inside.desc (λ j less. typed j (omega (arith, less))) x c.args.v.now.picks.items c.args.v.now.fields.items c.args.next c.args.s.now state v in
     let k = rw (c.as_slice-items.ensures, c.as_slice.ensures, c.as_slice-2.ensures.value, c.as_slice-3.ensures.value) at c.run-done.ensures.ran in
     let out = rw c.as_slice-items.ensures at c.out_type.ensures in
     let r = whole c.d.inside.desc typed x _ _ c.args.next c.args.s.now c.run-done.new.s c.run-done.result _ state fits c.values_fit.ensures.cells c.values_fit.ensures.trns v l u out k in
@@ -41,13 +39,13 @@ returns-then-wants-clause-done c = λ x w legal suits.
     rw (← c.d.view_is) (wants_is _ x c.args.v.now.fields.items c.args.next c.args.s.now c.run-done.new.s c.run-done.result r c.forget.new.self same (sym c.wants.ensures ∙ c.if-wants.true))
 
 pub returns-clause-done : goal.returns-clause-done
-returns-clause-done c = λ x w legal suits.
+returns-clause-done c = λ x w legal.
     let typed : IsTyped c.d.inside.desc = c.d.invariant in
     let state : IsStateOf (table c.d.inside.desc) c.args.s.now = rw (← c.d.view_is) at c.requires.state in
     let fits : NextFits (table c.d.inside.desc) c.args.next = rw (← c.d.view_is) at c.requires.next in
     let v : IsWalkOf (table c.d.inside.desc) (codes "instruction") c.args.v.now.picks.items c.args.v.now.fields.items x = rw (← c.d.view_is) at w in
     let l : IsLegal (table c.d.inside.desc) x = rw (← c.d.view_is) at legal in
-    let u : Suits (table c.d.inside.desc) c.args.v.now.fields.items c.args.next c.args.s.now.cells (action (table c.d.inside.desc) x) = rw (← c.d.view_is) at suits in
+    let u = suits c.d.inside.desc (λ j less. typed j (omega (arith, less))) x c.args.v.now.picks.items c.args.v.now.fields.items c.args.next c.args.s.now state v in
     let k = rw (c.as_slice-items.ensures, c.as_slice.ensures, c.as_slice-2.ensures.value, c.as_slice-3.ensures.value) at c.run-done.ensures.ran in
     let out = rw c.as_slice-items.ensures at c.out_type.ensures in
     let r = whole c.d.inside.desc typed x _ _ c.args.next c.args.s.now c.run-done.new.s c.run-done.result _ state fits c.values_fit.ensures.cells c.values_fit.ensures.trns v l u out k in
