@@ -105,7 +105,7 @@ pub other_told : (s : Store) (t u : Option (List ℕ)) (f g : ℕ) (form : Optio
 other_told s t u f g None status o told = absurd o
 other_told s t u f g (Some (Asm d c i)) status o told = absurd o
 other_told s t u f g (Some (Run d i x n)) status o told = absurd o
-other_told s t u f g (Some (Check d)) status o told = told_alone s s t u f g (Some (Check d)) not_built status (here s _ _ _ (inl (record { last = refl; is = refl }))) told
+other_told s t u f g (Some (Check d)) status o told = absurd o
 other_told s t u f g (Some (Dis d i)) status o told = told_alone s s t u f g (Some (Dis d i)) not_built status (here s _ _ _ (inl (record { last = refl; is = refl }))) told
 other_told s t u f g (Some (Cc d c i)) status o told = told_alone s s t u f g (Some (Cc d c i)) not_built status (here s _ _ _ (inl (record { last = refl; is = refl }))) told
 other_told s t u f g (Some (Ceval d c x n)) status o told = told_alone s s t u f g (Some (Ceval d c x n)) not_built status (here s _ _ _ (inl (record { last = refl; is = refl }))) told

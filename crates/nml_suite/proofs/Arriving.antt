@@ -5,11 +5,13 @@ use Rattle.image_file.specs.Seen.{picture_of}
 use Rattle.image_file.specs.declared.image.Image.{Image}
 use Rattle.plain_tools.specs.PlainText.{lines}
 use Rattle.nml_suite.specs.Answer.{AreNamed}
-use Rattle.nml_suite.specs.Coming.{Opens, Short, Opened, Accepts, Faulty, Accepted, Simplifies, Other, Plain, AssemblesTo, NotPlain, NoMatch, Words, Loads, NoImage, Loaded, RunsTo, Input, Ran, IsImageOf, first_input}
-use Rattle.nml_suite.specs.Described.{Describes}
+use Rattle.nml_suite.specs.Coming.{SumsUp, Summed, Opens, Short, Opened, Accepts, Faulty, Accepted, Simplifies, Other, Plain, AssemblesTo, NotPlain, NoMatch, Words, Loads, NoImage, Loaded, RunsTo, Input, Ran, IsImageOf, first_input}
+use Rattle.nml_suite.specs.Described.{IsAccepted, Describes}
+use Rattle.nml_tree.specs.declared.tree.Desc.{Desc}
+use Rattle.nml_types.specs.declared.checking.Summary.{Summary}
 use Rattle.nml_suite.specs.Reading.{Store, Reading, Got, IsShort, Asked, IsRead}
 use Rattle.nml_suite.specs.Reply.{assembled, starved, unread}
-use Rattle.nml_suite.specs.Refusing.{refused, settled, Settles, Arrives, IsUnread, IsDescribed, IsAssembledText, IsFound, IsBlankInput, TellsRunOf}
+use Rattle.nml_suite.specs.Refusing.{refused, settled, summed, Settles, Arrives, IsUnread, IsReadAs, IsSummedUp, IsDescribed, IsAssembledText, IsFound, IsBlankInput, TellsRunOf}
 use Rattle.nml_suite.specs.Work.{Work, telling}
 use Rattle.nml_suite.specs.declared.assemble.Assembled.{Assembled}
 use Rattle.nml_suite.specs.declared.refusal.Refusal.{Refusal}
@@ -83,6 +85,18 @@ not_described b names name bytes e goes (inl wants) = here b names _ _ (inr (ap 
 not_described b names name bytes e goes (inr (inl x)) = here b names _ _ (inl (Faulty x.fault x.faulty (record { last = refl; is = ap telling x.is })))
 not_described b names name bytes e goes (inr (inr x)) =
     here b names _ _ (inl (Accepted x.tree x.accepted (Other x.none (record { last = refl; is = ap telling x.is }))))
+
+-- ---- `check`
+
+pub not_accepted : (b : Store) (names : List (List ℕ)) (name bytes : List ℕ) (e : Refusal) (goes : Desc → List Asked → Work → Type 0)
+    → IsReadAs name bytes (Err e) → Settles b b names (Accepts name bytes goes) (telling (refused e))
+not_accepted b names name bytes e goes (inl wants) = here b names _ _ (inr (ap telling wants))
+not_accepted b names name bytes e goes (inr x) = here b names _ _ (inl (Faulty x.fault x.faulty (record { last = refl; is = ap telling x.is })))
+
+pub summed_up : (b : Store) (name bytes : List ℕ) (tree : Desc) (r : Result Summary Refusal) → IsAccepted bytes tree → IsSummedUp tree r
+    → Settles b b [] (Accepts name bytes SumsUp) (summed r)
+summed_up b name bytes tree (Ok s) a h = here b [] _ _ (inl (Accepted tree a (Summed s.count s.width h (record { last = refl; is = refl }))))
+summed_up b name bytes tree (Err e) a h = here b [] _ _ (inr (ap telling h))
 
 -- ---- `asm`
 

@@ -11,7 +11,7 @@ use Rattle.plain_tools.specs.Machine as machine
 use Rattle.plain_tools.specs.PlainText.{lines}
 use Rattle.nml_suite.specs.Answer.{Moment, Answers}
 use Rattle.nml_suite.specs.Cause.{HasCause, HasBytes, HasDescription, HasOtherDescription, HasMachine, HasImage, IsNotBuilt, Command, Assembled, Text, Machine, Image, IsUsage}
-use Rattle.nml_suite.specs.Coming.{EndsWith, Opens, Short, Opened, Accepts, Faulty, Accepted, Simplifies, Other, Plain, AssemblesTo, NotPlain, NoMatch, Words, Loads, NoImage, Loaded, RunsTo, Input, Ran, IsImageOf, AsmComesTo, RunComesTo, ComesTo, first_input}
+use Rattle.nml_suite.specs.Coming.{EndsWith, SumsUp, Summed, Opens, Short, Opened, Accepts, Faulty, Accepted, Simplifies, Other, Plain, AssemblesTo, NotPlain, NoMatch, Words, Loads, NoImage, Loaded, RunsTo, Input, Ran, IsImageOf, CheckComesTo, AsmComesTo, RunComesTo, ComesTo, first_input}
 use Rattle.nml_suite.specs.Described.{IsAccepted}
 use Rattle.nml_suite.specs.Files.{HaveCauses, Leaves}
 use Rattle.nml_suite.specs.Form.{Form, Check, Asm, Dis, Run, Cc, Ceval, Demo, named_to_read}
@@ -76,6 +76,22 @@ simplifies_owe b n form f tree goes xs w a row h (Other none e) = ends_owe b n f
 simplifies_owe b n form f tree goes xs w a row h (Plain d built g) =
     h (record { file = f; plain = d; described = record { tree = tree; accepted = a; built = built } }) refl g
 
+-- ---- `check`
+
+sums_owe : (b n : Moment) (d : List ℕ) (f : HasBytes b (Some (Check d)) 0) (tree : Desc) (xs : List Asked) (w : Work) → IsAccepted f.bytes tree → SumsUp tree xs w
+    → Owes b n (Some (Check d)) w.reply
+sums_owe b n d f tree xs w a (Summed count width s e) =
+    ends_owe b n (Some (Check d)) xs w _ e (λ t. inr (inr (record { check = tt; file = f; tree = tree; is = a; count = count; width = width; summary = s; told = t })))
+
+check_owes : (b n : Moment) (d : List ℕ) (xs : List Asked) (w : Work) → CallsBehind b n 0 xs w → HaveCauses b.store n.store xs → CheckComesTo d xs w
+    → Owes b n (Some (Check d)) w.reply
+check_owes b n d xs w calls c =
+    let form = Some (Check d) in
+    opens_owe b n form 0 d _ xs w refl calls c
+    (λ bytes more r calls_more c_more.
+    let f : HasBytes b form 0 = record { name = d; named = refl; bytes = bytes; read = r } in
+    accepts_owe b n form f _ more w (λ tree a. sums_owe b n d f tree more w a))
+
 -- ---- `asm`
 
 text_owes : (b n : Moment) (d s i : List ℕ) (x : HasDescription b (Some (Asm d s i))) (f : HasBytes b (Some (Asm d s i)) 1) (xs : List Asked) (w : Work)
@@ -116,7 +132,7 @@ stop_owes : (b n : Moment) (form : Option Form) (l : HasImage b form) (r : machi
     → machine.Runs l.files.description.plain l.picture.words l.files.steps (machine.beginning l.files.description.plain) r → r.stop ≡ stop → Took b.taken n.taken (told_run r).text
     → HasCause b n form (stop_status stop)
 stop_owes b n form l r Running blank runs e t = record { loaded = l; blank = blank; run = r; runs = runs; stop = e; told = t }
-stop_owes b n form l r (Halted zero) blank runs e t = inr (record { loaded = l; blank = blank; run = r; runs = runs; stop = e; told = t })
+stop_owes b n form l r (Halted zero) blank runs e t = inr (inl (record { loaded = l; blank = blank; run = r; runs = runs; stop = e; told = t }))
 stop_owes b n form l r (Halted (suc code)) blank runs e t = record { loaded = l; blank = blank; run = r; runs = runs; stop = (code, e); told = t }
 stop_owes b n form l r (NoWord place) blank runs e t = record { loaded = l; blank = blank; run = r; runs = runs; stop = (place, e); told = t }
 stop_owes b n form l r (BadWord place) blank runs e t = record { loaded = l; blank = blank; run = r; runs = runs; stop = (place, e); told = t }
@@ -161,7 +177,7 @@ work_owes : (b n : Moment) (form : Option Form) (xs : List Asked) (w : Work) →
 work_owes b n None xs w calls c saved e = ends_owe b n None xs w _ e (λ t. (refl, t))
 work_owes b n (Some (Asm d s i)) xs w calls c saved g = asm_owes b n d s i xs w calls c saved g
 work_owes b n (Some (Run d i x k)) xs w calls c saved g = run_owes b n d i x k xs w calls c g
-work_owes b n (Some (Check d)) xs w calls c saved e = ends_owe b n (Some (Check d)) xs w not_built e (λ t. Command tt t)
+work_owes b n (Some (Check d)) xs w calls c saved g = check_owes b n d xs w calls c g
 work_owes b n (Some (Dis d i)) xs w calls c saved e = ends_owe b n (Some (Dis d i)) xs w not_built e (λ t. Command tt t)
 work_owes b n (Some (Cc d s i)) xs w calls c saved e = ends_owe b n (Some (Cc d s i)) xs w not_built e (λ t. Command tt t)
 work_owes b n (Some (Ceval d s x k)) xs w calls c saved e = ends_owe b n (Some (Ceval d s x k)) xs w not_built e (λ t. Command tt t)

@@ -2,7 +2,7 @@
 use Rattle.std.proofs.Common.{◌≡◌, ℕ, List, [], ◌∷◌, Option, Some, None, sym, ap, subst}
 use Rattle.plain_tree.specs.Description.{Description}
 use Rattle.nml_tree.specs.declared.tree.Desc.{Desc}
-use Rattle.nml_suite.specs.Coming.{EndsWith, Opens, Short, Opened, Accepts, Faulty, Accepted, Simplifies, Other, Plain, AssemblesTo, NotPlain, NoMatch, Words, Loads, NoImage, Loaded, RunsTo, Input, Ran, ComesTo}
+use Rattle.nml_suite.specs.Coming.{EndsWith, SumsUp, Summed, Opens, Short, Opened, Accepts, Faulty, Accepted, Simplifies, Other, Plain, AssemblesTo, NotPlain, NoMatch, Words, Loads, NoImage, Loaded, RunsTo, Input, Ran, ComesTo}
 use Rattle.nml_suite.specs.Form.{Form, Check, Asm, Dis, Run, Cc, Ceval, Demo}
 use Rattle.nml_suite.specs.Reading.{Reading, Unread, IsShort, Asked}
 use Rattle.nml_suite.specs.Reply.{Reply}
@@ -49,6 +49,9 @@ simplifies_sound : (name : List ℕ) (tree : Desc) (goes : Description → List 
 simplifies_sound name tree goes xs w h (Other none e) = ends_sound _ xs w e
 simplifies_sound name tree goes xs w h (Plain d built g) = h d g
 
+sums_sound : (tree : Desc) (xs : List Asked) (w : Work) → SumsUp tree xs w → IsSound xs w
+sums_sound tree xs w (Summed count width s e) = ends_sound _ xs w e
+
 text_sound : (s i bytes : List ℕ) (d : Description) (text : List ℕ) (xs : List Asked) (w : Work) → AssemblesTo s i bytes d text xs w → IsSound xs w
 text_sound s i bytes d text xs w (NotPlain c e) = ends_sound _ xs w e
 text_sound s i bytes d text xs w (NoMatch c line l e) = ends_sound _ xs w e
@@ -79,7 +82,7 @@ sound (Some (Run d i x n)) xs w g =
     (λ bits rest. loads_sound i bytes p bits _ rest w
     (λ words. opens_sound x _ rest w (λ text last. runs_sound x n p words text last w))))))
     g
-sound (Some (Check d)) xs w e = ends_sound _ xs w e
+sound (Some (Check d)) xs w g = opens_sound d _ xs w (λ bytes more. accepts_sound d bytes _ more w (λ tree. sums_sound tree more w)) g
 sound (Some (Dis d i)) xs w e = ends_sound _ xs w e
 sound (Some (Cc d s i)) xs w e = ends_sound _ xs w e
 sound (Some (Ceval d s x n)) xs w e = ends_sound _ xs w e

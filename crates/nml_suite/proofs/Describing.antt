@@ -4,11 +4,11 @@ use Rattle.plain_tree.specs.declared.rules.Plain.{Plain}
 use Rattle.nml_tree.specs.declared.tree.Desc.{Desc}
 use Rattle.nml_tree.specs.declared.fault.DescFault.{DescFault}
 use Rattle.nml_tree.specs.declared.fault.DescFault.TheVariants as faults
-use Rattle.nml_tree.specs.Refused.{IsTyped, IsUntyped}
+use Rattle.nml_tree.specs.Refused.{IsChecked, IsRefused}
 use Rattle.nml_grammar.specs.Trees.{IsReadFault}
 use Rattle.nml_suite.specs.Described.{Spells, HasFault, NoTokens, NoTree, Floating, Refused, is_memory}
 use Rattle.nml_suite.specs.Reply.{Reply, starved, description_fault}
-use Rattle.nml_suite.specs.Refusing.{IsDescribed, IsReadAs, IsTypedAs, IsRefusedTree, IsFaulty, IsDescribedBy, refused}
+use Rattle.nml_suite.specs.Refusing.{IsDescribed, IsReadAs, IsCheckedAs, IsRefusedTree, IsFaulty, IsDescribedBy, refused}
 use Rattle.nml_suite.specs.declared.refusal.Refusal.{Refusal}
 
 -- bytes with a fault are no description
@@ -24,11 +24,11 @@ accepted name bytes t (Err e) a (inl wants) = inl wants
 accepted name bytes t (Err e) a (inr x) = inr (inr (record { tree = t; accepted = a; none = x.1; is = x.0 }))
 
 -- what is told of a fault that a tree is refused for
-pub refused_tree : (name : List ℕ) (tree : Desc) (f : DescFault) (told : Reply) → IsUntyped tree f → told ≡ (if is_memory f then starved else description_fault name f)
+pub refused_tree : (name : List ℕ) (tree : Desc) (f : DescFault) (told : Reply) → IsRefused tree f → told ≡ (if is_memory f then starved else description_fault name f)
     → (told ≡ starved) ⊎ IsRefusedTree name tree told
-refused_tree name tree (faults.Lex at) told h e = inr (record { fault = faults.Lex at; faulty = h; is = e })
-refused_tree name tree (faults.Syntax at) told h e = inr (record { fault = faults.Syntax at; faulty = h; is = e })
-refused_tree name tree (faults.Float at) told h e = inr (record { fault = faults.Float at; faulty = h; is = e })
+refused_tree name tree (faults.Lex at) told h e = absurd h
+refused_tree name tree (faults.Syntax at) told h e = absurd h
+refused_tree name tree (faults.Float at) told h e = absurd h
 refused_tree name tree (faults.Name at) told h e = inr (record { fault = faults.Name at; faulty = h; is = e })
 refused_tree name tree (faults.Cycle rule) told h e = inr (record { fault = faults.Cycle rule; faulty = h; is = e })
 refused_tree name tree (faults.TypeFault at) told h e = inr (record { fault = faults.TypeFault at; faulty = h; is = e })
@@ -62,7 +62,7 @@ refused_bytes name bytes (faults.SameSyntax a b text) told h e = absurd h
 refused_bytes name bytes faults.Memory told h e = inl e
 
 -- bytes that spell a tree are accepted, or have its fault
-pub spelled_typed : (name bytes : List ℕ) (tree : Desc) (r : Result Desc Refusal) → Spells bytes tree → IsTypedAs name tree r → IsReadAs name bytes r
-spelled_typed name bytes tree (Ok t) s h = record { spelled = subst (Spells bytes) (sym h.0) s; typed = subst (λ u. IsTyped u) (sym h.0) h.1 }
-spelled_typed name bytes tree (Err e) s (inl wants) = inl wants
-spelled_typed name bytes tree (Err e) s (inr x) = inr (record { fault = x.fault; faulty = Refused tree s x.faulty; is = x.is })
+pub spelled_checked : (name bytes : List ℕ) (tree : Desc) (r : Result Desc Refusal) → Spells bytes tree → IsCheckedAs name tree r → IsReadAs name bytes r
+spelled_checked name bytes tree (Ok t) s h = record { spelled = subst (Spells bytes) (sym h.0) s; checked = subst (λ u. IsChecked u) (sym h.0) h.1 }
+spelled_checked name bytes tree (Err e) s (inl wants) = inl wants
+spelled_checked name bytes tree (Err e) s (inr x) = inr (record { fault = x.fault; faulty = Refused tree s x.faulty; is = x.is })

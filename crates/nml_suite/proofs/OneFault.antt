@@ -9,8 +9,8 @@ use Rattle.nml_tree.specs.declared.fault.DescFault.TheVariants as faults
 use Rattle.nml_lex.proofs.Parts.{never, place}
 use Rattle.nml_grammar.specs.Trees.{IsFloat}
 use Rattle.nml_grammar.proofs.OneReading.{one_place, tree_or_none, one_description}
-use Rattle.nml_types.specs.TypingFault.{IsTypingFault}
-use Rattle.nml_types.proofs.Refusals.{one_only, none_typed}
+use Rattle.nml_refusals.specs.TreeFault.{IsTreeFault}
+use Rattle.nml_refusals.proofs.TreeFaults.{one_only, none_checked}
 use Rattle.nml_suite.specs.Described.{HasFault, NoTokens, NoTree, Floating, Refused, Spells, IsAccepted, Describes}
 
 one_head : {a b : ℕ} {xs ys : List ℕ} → a ∷ xs ≡ b ∷ ys → a ≡ b
@@ -46,14 +46,14 @@ one_fault bytes f g (Floating a e h) (Refused t s k) = absurd (no_float_spelled 
 one_fault bytes f g (Refused t s h) (NoTokens b i k) = absurd (never bytes s.is.tokens b s.is.has k)
 one_fault bytes f g (Refused t s h) (NoTree b i k) = absurd (tree_or_none bytes t b s.is k)
 one_fault bytes f g (Refused t s h) (Floating b i k) = absurd (no_float_spelled bytes t b s k)
-one_fault bytes f g (Refused t s h) (Refused u r k) = one_only u f g (subst (λ x. IsTypingFault x f) (one_spelled bytes t u s r) h) k
+one_fault bytes f g (Refused t s h) (Refused u r k) = one_only u f g (subst (λ x. IsTreeFault x f) (one_spelled bytes t u s r) h) k
 
 -- bytes that are accepted have no fault
 pub no_fault : (bytes : List ℕ) (t : Desc) (f : DescFault) → IsAccepted bytes t → HasFault bytes f → ⊥
 no_fault bytes t f a (NoTokens at e h) = never bytes a.spelled.is.tokens at a.spelled.is.has h
 no_fault bytes t f a (NoTree at e h) = tree_or_none bytes t at a.spelled.is h
 no_fault bytes t f a (Floating at e h) = no_float_spelled bytes t at a.spelled h
-no_fault bytes t f a (Refused u s h) = none_typed t f a.typed (subst (λ x. IsTypingFault x f) (one_spelled bytes u t s a.spelled) h)
+no_fault bytes t f a (Refused u s h) = none_checked t f a.checked (subst (λ x. IsTreeFault x f) (one_spelled bytes u t s a.spelled) h)
 
 -- bytes are accepted as one tree
 pub one_accepted : (bytes : List ℕ) (t u : Desc) → IsAccepted bytes t → IsAccepted bytes u → t ≡ u

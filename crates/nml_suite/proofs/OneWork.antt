@@ -3,6 +3,7 @@ use Rattle.std.proofs.Common.{◌≡◌, ℕ, suc, List, [], ◌∷◌, Option, 
 use Rattle.plain_tree.specs.Description.{Description}
 use Rattle.plain_tree.specs.IsPlain.{IsPlain}
 use Rattle.nml_tree.specs.declared.tree.Desc.{Desc}
+use Rattle.nml_refusals.proofs.Summaries.{one_summary}
 use Rattle.image_file.specs.File.{Picture, Init, HasFile}
 use Rattle.image_file.proofs.OneFile.{one}
 use Rattle.plain_tools.specs.PlainText.{lines}
@@ -10,12 +11,12 @@ use Rattle.plain_tools.proofs.AssembledWords.{pc_numbers}
 use Rattle.plain_tools.proofs.Determined.{HasOneWord, one_assembly, none_fails, one_failure, both}
 use Rattle.plain_tools.proofs.Instructions.{same_word}
 use Rattle.plain_tools.proofs.OneRun.{one_run}
-use Rattle.nml_suite.specs.Coming.{EndsWith, Opens, Short, Opened, Accepts, Faulty, Accepted, Simplifies, Other, Plain, AssemblesTo, NotPlain, NoMatch, Words, Loads, NoImage, Loaded, RunsTo, Input, Ran, IsImageOf, ComesTo, picture, made}
+use Rattle.nml_suite.specs.Coming.{EndsWith, SumsUp, Summed, Opens, Short, Opened, Accepts, Faulty, Accepted, Simplifies, Other, Plain, AssemblesTo, NotPlain, NoMatch, Words, Loads, NoImage, Loaded, RunsTo, Input, Ran, IsImageOf, ComesTo, picture, made}
 use Rattle.nml_suite.specs.Complete.{Answering, AreAnswered, ComesOut}
 use Rattle.nml_suite.specs.Described.{IsAccepted}
 use Rattle.nml_suite.specs.Form.{Form, Check, Asm, Dis, Run, Cc, Ceval, Demo}
 use Rattle.nml_suite.specs.Reading.{Got, IsShort, Asked}
-use Rattle.nml_suite.specs.Reply.{Reply, unread, description_fault, no_match, bad_input, told_run}
+use Rattle.nml_suite.specs.Reply.{Reply, unread, accepted, description_fault, no_match, bad_input, told_run}
 use Rattle.nml_suite.specs.Work.{Work, telling}
 use Rattle.nml_suite.proofs.Images.{has_file}
 use Rattle.nml_suite.proofs.OneFault.{one_fault, no_fault, one_accepted, one_built}
@@ -65,6 +66,12 @@ simplifies_one name tree goes went xs ys w v h (Other none e) (Other no_other i)
 simplifies_one name tree goes went xs ys w v h (Other none e) (Plain d b g) = absurd (none d b)
 simplifies_one name tree goes went xs ys w v h (Plain d b g) (Other none e) = absurd (none d b)
 simplifies_one name tree goes went xs ys w v h (Plain d b g) (Plain c k f) = h c k.plain.plain (subst (λ z. goes z xs w) (one_built tree d c b.plain k.plain) g) f
+
+-- ---- `check`
+
+sums_one : (tree : Desc) (xs ys : List Asked) (w v : Work) → SumsUp tree xs w → SumsUp tree ys v → w ≡ v
+sums_one tree xs ys w v (Summed c b s e) (Summed a z t f) =
+    let same = one_summary tree c b a z s t in both_end _ _ xs ys w v (λ j. accepted (same.0 j) (same.1 j)) e f
 
 -- ---- `asm`
 
@@ -131,7 +138,8 @@ comes_one answers (Some (Run d i x n)) xs ys w v a b f g =
     (λ words. opens_one answers 2 x _ _ rest last w v h j
     (λ text end stop l m. runs_one x n p words text end stop w v plain))))))
     f g
-comes_one answers (Some (Check d)) xs ys w v a b x y = both_end _ _ xs ys w v refl x y
+comes_one answers (Some (Check d)) xs ys w v a b x y =
+    opens_one answers 0 d _ _ xs ys w v a b (λ bytes more other c e. accepts_one d bytes _ _ more other w v (λ tree k. sums_one tree more other w v)) x y
 comes_one answers (Some (Dis d i)) xs ys w v a b x y = both_end _ _ xs ys w v refl x y
 comes_one answers (Some (Cc d s i)) xs ys w v a b x y = both_end _ _ xs ys w v refl x y
 comes_one answers (Some (Ceval d s x n)) xs ys w v a b y z = both_end _ _ xs ys w v refl y z

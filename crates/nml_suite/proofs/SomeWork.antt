@@ -13,10 +13,12 @@ use Rattle.plain_tools.specs.Machine.{RunOutcome, Runs, beginning}
 use Rattle.plain_tools.specs.PlainText.{lines}
 use Rattle.plain_tools.proofs.HasOutcome.{has_outcome}
 use Rattle.plain_tools.proofs.Determined.{not_neither}
-use Rattle.nml_suite.specs.Coming.{EndsWith, Opens, Short, Opened, Accepts, Faulty, Accepted, Simplifies, Other, Plain, AssemblesTo, NotPlain, NoMatch, Words, Loads, NoImage, Loaded, RunsTo, Input, Ran, ComesTo, first_input, made}
+use Rattle.nml_suite.specs.Coming.{EndsWith, SumsUp, Summed, Opens, Short, Opened, Accepts, Faulty, Accepted, Simplifies, Other, Plain, AssemblesTo, NotPlain, NoMatch, Words, Loads, NoImage, Loaded, RunsTo, Input, Ran, ComesTo, first_input, made}
 use Rattle.nml_suite.specs.Complete.{Answering, AllAnswer, AreAnswered, ComesOut}
-use Rattle.nml_types.proofs.Refusals.{typed_if_none}
-use Rattle.nml_suite.specs.Described.{Spells, NoTokens, NoTree, Floating, Refused, IsBuilt}
+use Rattle.nml_refusals.proofs.TreeFaults.{checked_if_none}
+use Rattle.nml_refusals.proofs.Summaries.{some_summary}
+use Rattle.nml_tree.specs.Refused.{IsChecked}
+use Rattle.nml_suite.specs.Described.{Spells, NoTokens, NoTree, Floating, Refused, IsAccepted, IsBuilt}
 use Rattle.nml_suite.specs.Form.{Form, Check, Asm, Dis, Run, Cc, Ceval, Demo}
 use Rattle.nml_suite.specs.Reading.{Reading, Got, Absent, Failed, TooLong, Unread, Asked}
 use Rattle.nml_suite.specs.Reply.{Reply, told_run}
@@ -44,26 +46,31 @@ opens : (answers : Answering) (k : ℕ) (name : List ℕ) (goes : List ℕ → L
 opens answers k name goes all h = opens_by answers k name goes (answers k name) refl (all k name) h
 
 accepts_tree : (answers : Answering) (k : ℕ) (name bytes : List ℕ) (goes : Desc → List Asked → Work → Type 0) (tree : Desc) → IsTree bytes tree
-    → ((tree : Desc) → Comes answers k (goes tree)) → (float_places tree ≡ []) ⊎ ((at : ℕ) × IsFloat bytes at) → Comes answers k (Accepts name bytes goes)
+    → ((tree : Desc) → IsAccepted bytes tree → Comes answers k (goes tree)) → (float_places tree ≡ []) ⊎ ((at : ℕ) × IsFloat bytes at) → Comes answers k (Accepts name bytes goes)
 accepts_tree answers k name bytes goes tree is h (inl clear) none =
     let spelled : Spells bytes tree = record { is = is; no_float = clear } in
-    let typed = typed_if_none tree (λ f x. none [] _ tt (Faulty f (Refused tree spelled x) (record { last = refl; is = refl }))) in
-    h tree (λ asked work a g. none asked work a (Accepted tree (record { spelled = spelled; typed = typed }) g))
+    checked_if_none tree (λ f x. none [] _ tt (Faulty f (Refused tree spelled x) (record { last = refl; is = refl })))
+    (λ checked. let accepted : IsAccepted bytes tree = record { spelled = spelled; checked = checked } in h tree accepted (λ asked work a g. none asked work a (Accepted tree accepted g)))
 accepts_tree answers k name bytes goes tree is h (inr float) none = none [] _ tt (Faulty (faults.Float float.0) (Floating float.0 refl float.1) (record { last = refl; is = refl }))
 
-accepts_by : (answers : Answering) (k : ℕ) (name bytes : List ℕ) (goes : Desc → List Asked → Work → Type 0) → ((tree : Desc) → Comes answers k (goes tree))
+accepts_by : (answers : Answering) (k : ℕ) (name bytes : List ℕ) (goes : Desc → List Asked → Work → Type 0) → ((tree : Desc) → IsAccepted bytes tree → Comes answers k (goes tree))
     → ((d : Desc) × IsTree bytes d) ⊎ (((at : ℕ) × HasNoTree bytes at) ⊎ ((at : ℕ) × IsStuckAt bytes at)) → Comes answers k (Accepts name bytes goes)
 accepts_by answers k name bytes goes h (inl x) none = accepts_tree answers k name bytes goes x.0 x.1 h (some_float bytes x.0 x.1) none
 accepts_by answers k name bytes goes h (inr (inl x)) none = none [] _ tt (Faulty (faults.Syntax x.0) (NoTree x.0 refl x.1) (record { last = refl; is = refl }))
 accepts_by answers k name bytes goes h (inr (inr x)) none = none [] _ tt (Faulty (faults.Lex x.0) (NoTokens x.0 refl x.1) (record { last = refl; is = refl }))
 
-accepts : (answers : Answering) (k : ℕ) (name bytes : List ℕ) (goes : Desc → List Asked → Work → Type 0) → ((tree : Desc) → Comes answers k (goes tree)) → Comes answers k (Accepts name bytes goes)
+accepts : (answers : Answering) (k : ℕ) (name bytes : List ℕ) (goes : Desc → List Asked → Work → Type 0) → ((tree : Desc) → IsAccepted bytes tree → Comes answers k (goes tree)) → Comes answers k (Accepts name bytes goes)
 accepts answers k name bytes goes h = accepts_by answers k name bytes goes h (some_tree bytes)
 
 simplifies : (answers : Answering) (k : ℕ) (name : List ℕ) (tree : Desc) (goes : Description → List Asked → Work → Type 0)
     → ((d : Description) → IsBuilt tree d → Comes answers k (goes d)) → Comes answers k (Simplifies name tree goes)
 simplifies answers k name tree goes h none =
     none [] _ tt (Other (λ d built. h d built (λ asked work a g. none asked work a (Plain d built g))) (record { last = refl; is = refl }))
+
+-- ---- `check`
+
+sums_up : (answers : Answering) (k : ℕ) (tree : Desc) → IsChecked tree → Comes answers k (SumsUp tree)
+sums_up answers k tree checked none = some_summary tree checked (λ count width s. none [] _ tt (Summed count width s (record { last = refl; is = refl })))
 
 -- ---- `asm`
 
@@ -92,16 +99,16 @@ comes answers None all = ends answers 0 _
 comes answers (Some (Asm d s i)) all =
     opens answers 0 d _ all
     (λ bytes. accepts answers 1 d bytes _
-    (λ tree. simplifies answers 1 d tree _
+    (λ tree a. simplifies answers 1 d tree _
     (λ p built. opens answers 1 s _ all (λ text. text_by answers 2 s i bytes p text (is_fit p text) refl))))
 comes answers (Some (Run d i x n)) all =
     opens answers 0 d _ all
     (λ bytes. accepts answers 1 d bytes _
-    (λ tree. simplifies answers 1 d tree _
+    (λ tree a. simplifies answers 1 d tree _
     (λ p built. opens answers 1 i _ all
     (λ bits. loads answers 2 i bytes p bits _
     (λ words. opens answers 2 x _ all (λ text. runs_by answers 3 x n p words text (first_input 1 (lines text)) refl (has_outcome p words n (beginning p) built.plain.plain)))))))
-comes answers (Some (Check d)) all = ends answers 0 _
+comes answers (Some (Check d)) all = opens answers 0 d _ all (λ bytes. accepts answers 1 d bytes _ (λ tree a. sums_up answers 1 tree a.checked))
 comes answers (Some (Dis d i)) all = ends answers 0 _
 comes answers (Some (Cc d s i)) all = ends answers 0 _
 comes answers (Some (Ceval d s x n)) all = ends answers 0 _

@@ -5,7 +5,9 @@ use Rattle.nk_outside.specs.Held.{Reads, Lacks, IsTooLong}
 use Rattle.nk_outside.specs.Taken.{Took}
 use Rattle.plain_tree.specs.Description.{Description}
 use Rattle.nml_tree.specs.declared.tree.Desc.{Desc}
+use Rattle.nml_tree.specs.Table.{table}
 use Rattle.nml_tree.specs.declared.fault.DescFault.{DescFault}
+use Rattle.nml_types.specs.Summary.{IsSummary}
 use Rattle.image_file.specs.File.{Picture}
 use Rattle.plain_tools.specs.Assembly.{Assembles, FailsAt, is_fit}
 use Rattle.plain_tools.specs.PlainText.{lines}
@@ -17,7 +19,7 @@ use Rattle.nml_suite.specs.Described.{HasFault, IsAccepted, IsBuilt, Describes}
 use Rattle.nml_suite.specs.Files.{Leaves}
 use Rattle.nml_suite.specs.Form.{Form, Check, Asm, Dis, Run, Cc, Ceval, Demo, named_to_read, named_to_write}
 use Rattle.nml_suite.specs.Reading.{Reading, Absent, Failed, TooLong}
-use Rattle.nml_suite.specs.Reply.{usage_line, unread, description_fault, not_built, not_built_file, no_match, bad_input, told_run}
+use Rattle.nml_suite.specs.Reply.{usage_line, unread, description_fault, not_built, not_built_file, accepted, no_match, bad_input, told_run}
 use Rattle.nml_suite.specs.Told.{EndsIn}
 use Rattle.nml_suite.specs.declared.status.Status.{Status}
 use Rattle.nml_suite.specs.declared.status.Status.TheVariants as statuses
@@ -90,16 +92,34 @@ abbrev pub IsRun : ℕ → Option Form → Type 0
 IsRun steps (Some (Run d i x n)) = n ≡ steps
 IsRun steps _ = ⊥
 
+-- those of `check`
+abbrev pub IsCheck : Option Form → Type 0
+IsCheck (Some (Check d)) = Unit {0}
+IsCheck _ = ⊥
+
 -- those of a command that isn't built
 abbrev pub IsOther : Option Form → Type 0
 IsOther None = ⊥
-IsOther (Some (Check d)) = Unit {0}
+IsOther (Some (Check d)) = ⊥
 IsOther (Some (Asm d s i)) = ⊥
 IsOther (Some (Dis d i)) = Unit {0}
 IsOther (Some (Run d i x n)) = ⊥
 IsOther (Some (Cc d c i)) = Unit {0}
 IsOther (Some (Ceval d c x n)) = Unit {0}
 IsOther (Some (Demo k)) = Unit {0}
+
+-- ---- `check`
+
+-- the description is accepted, and what is told are the number of its shapes and the bits of its words
+pub record HasSummary (before now : Moment) (form : Option Form) : Type 0 where
+  pub check : IsCheck form
+  pub file : HasBytes before form 0
+  pub tree : Desc
+  pub is : IsAccepted file.bytes tree
+  pub count : ℕ
+  pub width : ℕ
+  pub summary : IsSummary (table tree) count width
+  pub told : Took before.taken now.taken (accepted count width).text
 
 -- ---- `asm`
 
@@ -200,7 +220,7 @@ HasCause before now form statuses.NotBuilt = IsNotBuilt before now form
 HasCause before now form statuses.Description = HasFaultyDescription before now form
 HasCause before now form statuses.Source = HasBadLine before now form
 HasCause before now form statuses.Input = HasBadInput before now form
-HasCause before now form statuses.Done = HasWords before now form ⊎ HasRun before now form (λ s. s ≡ Halted 0)
+HasCause before now form statuses.Done = HasWords before now form ⊎ (HasRun before now form (λ s. s ≡ Halted 0) ⊎ HasSummary before now form)
 HasCause before now form statuses.Stopped = HasRun before now form IsOtherHalt
 HasCause before now form statuses.Budget = HasRun before now form (λ s. s ≡ Running)
 HasCause before now form statuses.NoWord = HasRun before now form IsNoWordStop

@@ -7,7 +7,9 @@ use Rattle.nk_base.specs.Byte.{is_blank}
 use Rattle.plain_tree.specs.Description.{Description}
 use Rattle.plain_tree.specs.IsPlain.{word_width, pc_width}
 use Rattle.nml_tree.specs.declared.tree.Desc.{Desc}
+use Rattle.nml_tree.specs.Table.{table}
 use Rattle.nml_tree.specs.declared.fault.DescFault.{DescFault}
+use Rattle.nml_types.specs.Summary.{IsSummary}
 use Rattle.image_file.specs.File.{Picture, file}
 use Rattle.plain_tools.specs.PlainImage.{IsPlainImage}
 use Rattle.plain_tools.specs.Assembly.{Assembles, FailsAt, is_fit}
@@ -17,7 +19,7 @@ use Rattle.plain_tools.specs.Machine as machine
 use Rattle.nml_suite.specs.Described.{HasFault, IsAccepted, IsBuilt}
 use Rattle.nml_suite.specs.Form.{Form, Check, Asm, Dis, Run, Cc, Ceval, Demo}
 use Rattle.nml_suite.specs.Reading.{Reading, Got, Asked, IsShort}
-use Rattle.nml_suite.specs.Reply.{Reply, reply, unread, usage_line, description_fault, not_built, not_built_file, no_match, bad_input, assembled, told_run}
+use Rattle.nml_suite.specs.Reply.{Reply, reply, unread, usage_line, description_fault, not_built, not_built_file, accepted, no_match, bad_input, assembled, told_run}
 use Rattle.nml_suite.specs.Work.{Work, Written, telling}
 use Rattle.nml_suite.specs.declared.status.Status.TheVariants as statuses
 
@@ -42,6 +44,16 @@ pub data Accepts (name bytes : List ℕ) (goes : Desc → List Asked → Work �
 pub data Simplifies (name : List ℕ) (tree : Desc) (goes : Description → List Asked → Work → Type 0) (asked : List Asked) (work : Work) : Type 0 where
   Other : ((d : Description) → IsBuilt tree d → ⊥) → EndsWith (not_built_file name) asked work → Simplifies name tree goes asked work
   Plain : (d : Description) → IsBuilt tree d → goes d asked work → Simplifies name tree goes asked work
+
+-- ---- `check`
+
+-- what `check` comes to on a tree that is accepted
+pub data SumsUp (tree : Desc) (asked : List Asked) (work : Work) : Type 0 where
+  Summed : (count width : ℕ) → IsSummary (table tree) count width → EndsWith (accepted count width) asked work → SumsUp tree asked work
+
+-- what `check` comes to
+abbrev pub CheckComesTo : List ℕ → List Asked → Work → Type 0
+CheckComesTo description = Opens description (λ bytes. Accepts description bytes SumsUp)
 
 -- ---- `asm`
 
@@ -113,7 +125,7 @@ abbrev pub ComesTo : Option Form → List Asked → Work → Type 0
 ComesTo None = EndsWith (reply statuses.Usage usage_line)
 ComesTo (Some (Asm d s i)) = AsmComesTo d s i
 ComesTo (Some (Run d i x n)) = RunComesTo d i x n
-ComesTo (Some (Check d)) = EndsWith not_built
+ComesTo (Some (Check d)) = CheckComesTo d
 ComesTo (Some (Dis d i)) = EndsWith not_built
 ComesTo (Some (Cc d c i)) = EndsWith not_built
 ComesTo (Some (Ceval d c x n)) = EndsWith not_built

@@ -2,14 +2,14 @@
 use Rattle.std.specs.Prelude.{◌≡◌, ℕ, List, [], length, IsTrue, Bool, true, false, nat_lt}
 use Rattle.plain_tree.specs.Description.{Description}
 use Rattle.nml_tree.specs.Floats.{float_places}
-use Rattle.nml_tree.specs.Refused.{IsTyped}
+use Rattle.nml_tree.specs.Refused.{IsChecked}
 use Rattle.plain_tree.specs.PlainTree.{IsPlainTree}
 use Rattle.nml_tree.specs.declared.tree.Desc.{Desc}
 use Rattle.nml_tree.specs.declared.fault.DescFault.{DescFault}
 use Rattle.nml_tree.specs.declared.fault.DescFault.TheVariants as faults
 use Rattle.nml_lex.specs.Lexed.{IsStuckAt}
 use Rattle.nml_grammar.specs.Trees.{IsTree, HasNoTree, IsFloat}
-use Rattle.nml_types.specs.TypingFault.{IsTypingFault}
+use Rattle.nml_refusals.specs.TreeFault.{IsTreeFault}
 
 -- the bytes spell this tree, which has no type `float`
 pub record Spells (bytes : List ℕ) (tree : Desc) : Type 0 where
@@ -22,7 +22,7 @@ pub data HasFault (bytes : List ℕ) (f : DescFault) : Type 0 where
   NoTokens : (at : ℕ) → f ≡ faults.Lex at → IsStuckAt bytes at → HasFault bytes f
   NoTree : (at : ℕ) → f ≡ faults.Syntax at → HasNoTree bytes at → HasFault bytes f
   Floating : (at : ℕ) → f ≡ faults.Float at → IsFloat bytes at → HasFault bytes f
-  Refused : (tree : Desc) → Spells bytes tree → IsTypingFault tree f → HasFault bytes f
+  Refused : (tree : Desc) → Spells bytes tree → IsTreeFault tree f → HasFault bytes f
 
 -- memory was wanted, which is no fault of a description
 abbrev pub is_memory : DescFault → Bool
@@ -32,7 +32,7 @@ is_memory _ = false
 -- the bytes are accepted as this tree: they spell it, and it has no fault
 pub record IsAccepted (bytes : List ℕ) (tree : Desc) : Type 0 where
   pub spelled : Spells bytes tree
-  pub typed : IsTyped tree
+  pub checked : IsChecked tree
 
 -- PC stands before the rules
 abbrev pub has_pc : Description → Bool

@@ -17,11 +17,14 @@ use Rattle.nk_outside.specs.Count.{Rose}
 use Rattle.nk_outside.specs.Held.{SameElsewhere}
 use Rattle.nml_suite.specs.Answer.{AreNamed}
 use Rattle.nml_suite.specs.Coming.{EndsWith, IsImageOf, RunComesTo, written_image, first_input}
-use Rattle.nml_tree.specs.Refused.{IsTyped}
-use Rattle.nml_types.specs.TypingFault.{IsTypingFault}
+use Rattle.nml_tree.specs.Refused.{IsChecked}
+use Rattle.nml_tree.specs.Table.{table}
+use Rattle.nml_refusals.specs.TreeFault.{IsTreeFault}
+use Rattle.nml_types.specs.Summary.{IsSummary}
+use Rattle.nml_types.specs.declared.checking.Summary.{Summary}
 use Rattle.nml_suite.specs.Described.{HasFault, Spells, IsAccepted, IsBuilt, Describes}
 use Rattle.nml_suite.specs.Reading.{Store, Reading, Got, Absent, Failed, TooLong, IsShort, Asked, IsRead, AreRead}
-use Rattle.nml_suite.specs.Reply.{Reply, starved, unread, write_failed, description_fault, not_built_file, no_match, bad_input, assembled, told_run}
+use Rattle.nml_suite.specs.Reply.{Reply, starved, unread, write_failed, description_fault, not_built_file, accepted, no_match, bad_input, assembled, told_run}
 use Rattle.nml_suite.specs.Work.{Work, Written, telling, IsWriteCall, HasWritten}
 use Rattle.nml_suite.specs.declared.assemble.Assembled.{Assembled}
 use Rattle.nml_suite.specs.declared.ready.Ready.{Ready}
@@ -88,13 +91,13 @@ IsSpelledAs name bytes (Err refusal) = Wants refusal ⊎ IsFaulty name bytes (re
 -- the tree has a fault, which is told
 pub record IsRefusedTree (name : List ℕ) (tree : Desc) (told : Reply) : Type 0 where
   pub fault : DescFault
-  pub faulty : IsTypingFault tree fault
+  pub faulty : IsTreeFault tree fault
   pub is : told ≡ description_fault name fault
 
--- the tree is typed, or it has a fault, or memory was wanted
-abbrev pub IsTypedAs : List ℕ → Desc → Result Desc Refusal → Type 0
-IsTypedAs name tree (Ok t) = (t ≡ tree) × IsTyped tree
-IsTypedAs name tree (Err refusal) = Wants refusal ⊎ IsRefusedTree name tree (refused refusal)
+-- the tree has none of the faults N4 to N14, or it has one, or memory was wanted
+abbrev pub IsCheckedAs : List ℕ → Desc → Result Desc Refusal → Type 0
+IsCheckedAs name tree (Ok t) = (t ≡ tree) × IsChecked tree
+IsCheckedAs name tree (Err refusal) = Wants refusal ⊎ IsRefusedTree name tree (refused refusal)
 
 -- the bytes are accepted, or they have a fault, or memory was wanted
 abbrev pub IsReadAs : List ℕ → List ℕ → Result Desc Refusal → Type 0
@@ -119,6 +122,18 @@ abbrev pub IsDescribed : List ℕ → List ℕ → Result Plain Refusal → Type
 IsDescribed name bytes (Ok p) = Describes bytes (description_of p)
 IsDescribed name bytes (Err refusal) =
     Wants refusal ⊎ (IsFaulty name bytes (refused refusal) ⊎ IsNoDescription name bytes (refused refusal))
+
+-- ---- `check`
+
+-- this is the summary, or memory was wanted
+abbrev pub IsSummedUp : Desc → Result Summary Refusal → Type 0
+IsSummedUp tree (Ok s) = IsSummary (table tree) s.count s.width
+IsSummedUp tree (Err refusal) = Wants refusal
+
+-- what is told of a summary or a refusal
+abbrev pub summed : Result Summary Refusal → Work
+summed (Ok s) = telling (accepted s.count s.width)
+summed (Err refusal) = telling (refused refusal)
 
 -- ---- `asm`
 

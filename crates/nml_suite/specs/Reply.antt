@@ -72,6 +72,10 @@ ok_line count = codes "ok: " ++ decimal count ++ codes " words\n"
 abbrev pub assembled : ℕ → List ℕ → Reply
 assembled width words = reply statuses.Done (word_lines width words ++ ok_line (length words))
 
+-- a description that is accepted, with so many shapes and so many bits in a word
+abbrev pub accepted : (count width : ℕ) → Reply
+accepted count width = reply statuses.Done (codes "description ok: " ++ decimal count ++ codes " shapes, " ++ decimal width ++ codes " bits\n")
+
 -- an output in decimal, on a line
 abbrev pub output_line : ℤ → List ℕ
 output_line z = signed_decimal z ++ codes "\n"

@@ -1,7 +1,7 @@
 ghost use Rattle.std.specs.Prelude.{◌≡◌, ◌≤◌, length, IfOk, IfErr, IsTrue, IsFalse, if◌then◌else◌};
 ghost use Rattle.nml_suite.specs.Described as spec;
 ghost use Rattle.nk_outside.specs.Held.{file_limit};
-ghost use Rattle.nml_suite.specs.Refusing.{IsDescribed, IsReadAs, IsSpelledAs, IsTypedAs, IsDescribedBy, refused};
+ghost use Rattle.nml_suite.specs.Refusing.{IsDescribed, IsReadAs, IsSpelledAs, IsCheckedAs, IsDescribedBy, refused};
 ghost use Rattle.nml_suite.specs.Reply.{description_fault, not_built_file, starved};
 ghost use Rattle.plain_tree.specs.Description.{description_of};
 
@@ -9,8 +9,8 @@ use crate::fault::is_memory;
 use crate::refusal::Refusal;
 use nk_base::{Memory, Text};
 use nml_read::read;
-use nml_tree::{Desc, DescFault, Typed};
-use nml_types::typed;
+use nml_tree::{Checked, Desc, DescFault};
+use nml_types::check;
 use plain_tree::{Plain, plain_of};
 use std::alloc::Global;
 
@@ -20,11 +20,15 @@ pub fn describe<'a>(alloc: Global, name: &'a Text, bytes: &[u8]) -> Result<Plain
     ensures { IsDescribed name.now bytes.now result }
 {
     let tree = accepted(alloc, name, bytes)?;
-    described(alloc, name, &tree.desc)
+    described(alloc, name, &tree.typed().desc)
 }
 
 /// The tree that the bytes of the named file are accepted as.
-fn accepted<'a>(alloc: Global, name: &'a Text, bytes: &[u8]) -> Result<Typed, Refusal<'a>>
+pub fn accepted<'a>(
+    alloc: Global,
+    name: &'a Text,
+    bytes: &[u8],
+) -> Result<Checked, Refusal<'a>>
     requires { length bytes.now ≤ file_limit }
     ensures { IsReadAs name.now bytes.now result }
 {
@@ -43,11 +47,11 @@ fn spelled<'a>(alloc: Global, name: &'a Text, bytes: &[u8]) -> Result<Desc, Refu
     }
 }
 
-/// The tree of the named file, where it is typed.
-fn checked<'a>(alloc: Global, name: &'a Text, tree: Desc) -> Result<Typed, Refusal<'a>>
-    ensures { IsTypedAs name.now tree result }
+/// The tree of the named file, where it has none of the faults N4 to N14.
+fn checked<'a>(alloc: Global, name: &'a Text, tree: Desc) -> Result<Checked, Refusal<'a>>
+    ensures { IsCheckedAs name.now tree result }
 {
-    match typed(alloc, tree) {
+    match check(alloc, tree) {
         Ok(tree) => Ok(tree),
         Err(fault) => Err(refusal_of(name, fault)),
     }

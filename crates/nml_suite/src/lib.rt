@@ -13,6 +13,7 @@ mod refusal;
 mod run;
 mod status;
 mod stop;
+mod summary;
 mod tell;
 mod top;
 

@@ -10,6 +10,7 @@ use crate::assemble::Assembled;
 use crate::refusal::Refusal;
 use nk_base::{Memory, Text, dec, push_hexadecimal};
 use nk_outside::{Sink, WriteFault};
+use nml_types::Summary;
 use std::alloc::Global;
 
 /// Puts one line, and answers the status that comes of it.
@@ -26,6 +27,14 @@ pub fn tell_refusal<S: Sink>(alloc: Global, sink: &mut S, refusal: &Refusal<'_>)
 {
     let done = put_refusal(alloc, sink, refusal);
     ended(alloc, sink, done, refusal.status())
+}
+
+/// Puts the line of an accepted description.
+pub fn tell_summary<S: Sink>(alloc: Global, sink: &mut S, found: Summary) -> Status
+    ensures { Told (spec.accepted found.count found.width) (S.taken sink.old) (S.taken sink.new) (S.faults sink.old) (S.faults sink.new) result }
+{
+    let done = put_summary(alloc, sink, found);
+    ended(alloc, sink, done, Status::Done)
 }
 
 /// Puts the words, a line each, and how many there are.
@@ -79,6 +88,28 @@ fn put_refusal<S: Sink>(
     }
     let line = refusal.line(alloc)?;
     put(alloc, sink, line.as_bytes())
+}
+
+/// Puts the line of an accepted description.
+fn put_summary<S: Sink>(alloc: Global, sink: &mut S, found: Summary) -> Result<(), WriteFault>
+    ensures ok { OnOk result (Took (S.taken sink.old) (S.taken sink.new) (spec.accepted found.count found.width).text) }
+    ensures err { OnErr result (TookFront (S.taken sink.old) (S.taken sink.new) (spec.accepted found.count found.width).text) }
+    ensures counts { CountsPuts (S.faults sink.old) (S.faults sink.new) result }
+{
+    let line = summary_line(alloc, found)?;
+    put(alloc, sink, line.as_bytes())
+}
+
+/// How many shapes there are, and how many bits a word has, a line.
+fn summary_line(alloc: Global, found: Summary) -> Result<Text, Memory>
+    ensures { IfOk result (λ t. t ≡ (spec.accepted found.count found.width).text) }
+{
+    let mut line = Text::from_bytes(alloc, b"description ok: ")?;
+    line.push_bytes(dec(alloc, i128::from(found.count))?.as_bytes())?;
+    line.push_bytes(b" shapes, ")?;
+    line.push_bytes(dec(alloc, i128::from(found.width))?.as_bytes())?;
+    line.push_bytes(b" bits\n")?;
+    Ok(line)
 }
 
 /// Puts the words, a line each, and how many there are.

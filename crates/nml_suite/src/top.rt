@@ -1,6 +1,6 @@
 ghost use Rattle.std.specs.Prelude.{Some};
 ghost use Rattle.nml_suite.specs.Answer.{Answers, moment};
-ghost use Rattle.nml_suite.specs.Form.{form_of, Asm, Run};
+ghost use Rattle.nml_suite.specs.Form.{form_of, Asm, Check, Run};
 ghost use Rattle.nml_suite.specs.Promises.{KeepsPromises};
 ghost use Rattle.nml_suite.specs.Reply.{not_built};
 ghost use Rattle.nml_suite.specs.Told.{Told};
@@ -10,7 +10,8 @@ use crate::assemble::{assemble, save};
 use crate::command::{Command, command_of};
 use crate::ready::prepare;
 use crate::run::tell_run;
-use crate::tell::{tell, tell_assembled, tell_refusal};
+use crate::summary::sum_up_file;
+use crate::tell::{tell, tell_assembled, tell_refusal, tell_summary};
 use nk_base::Text;
 use nk_outside::{Files, Sink};
 use std::alloc::Global;
@@ -62,7 +63,7 @@ fn answer<F: Files, S: Sink>(
                 steps,
             },
         ) => answer_run(alloc, files, sink, description, image, input, steps),
-        Some(Command::Check(_)) => tell_not_built(alloc, sink),
+        Some(Command::Check(description)) => answer_check(alloc, files, sink, description),
         Some(
             Command::Dis {
                 description: _,
@@ -94,6 +95,21 @@ fn tell_not_built<S: Sink>(alloc: Global, sink: &mut S) -> Status
     ensures { Told not_built (S.taken sink.old) (S.taken sink.new) (S.faults sink.old) (S.faults sink.new) result }
 {
     tell(alloc, sink, b"not built\n", Status::NotBuilt)
+}
+
+/// Sums a description up, and tells that.
+fn answer_check<F: Files, S: Sink>(
+    alloc: Global,
+    files: &mut F,
+    sink: &mut S,
+    description: &Text,
+) -> Status
+    ensures { Answers (moment (F.held files.old) (F.counts files.old) (S.taken sink.old) (S.faults sink.old)) (moment (F.held files.new) (F.counts files.new) (S.taken sink.new) (S.faults sink.new)) (Some (Check description.now)) result }
+{
+    match sum_up_file(alloc, files, description) {
+        Ok(found) => tell_summary(alloc, sink, found),
+        Err(refusal) => tell_refusal(alloc, sink, &refusal),
+    }
 }
 
 /// Assembles a text, writes its image, and puts its words.

@@ -1,1 +1,2 @@
 pub mod TypingFault
+pub mod Summary
