@@ -1,0 +1,3 @@
+pub mod FirstPair
+pub mod Alike
+pub mod TreeFaults
