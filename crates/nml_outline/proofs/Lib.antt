@@ -1,0 +1,15 @@
+pub mod ExactBits
+pub mod MaskBits
+pub mod SameShape
+pub mod Stands
+pub mod Stood
+pub mod WordBits
+pub mod Ranges
+pub mod PlaceOf
+pub mod Marks
+pub mod Bitwise
+pub mod ShapeWords
+pub mod ShapesMeet
+pub mod Linear
+pub mod Filled
+pub mod FlatText
