@@ -13,3 +13,8 @@ pub mod ShapesMeet
 pub mod Linear
 pub mod Filled
 pub mod FlatText
+pub mod LineParts
+pub mod NumberText
+pub mod Tokens
+pub mod ShapeTokens
+pub mod Choice

@@ -53,6 +53,25 @@ given_cond P false x o h k = k
 pub each_given : {A : Type 0} (P : A → Type 0) (x : Text × List A) (xs : List (Text × List A)) (q : Text) → Each P x.1 → Each P (given xs q) → Each P (given (x ∷ xs) q)
 each_given P x xs q h k = given_cond (Each P) (text_eq q x.0) x.1 (lookup (text_eq q) xs) h k
 
+-- these stand once, in one run, and around it stands nothing but what P holds of
+pub record OnceIn {A : Type 0} (P : A → Type 0) (run xs : List A) : Type 0 where
+  pub before : List A
+  pub behind : List A
+  pub are : xs ≡ before ++ (run ++ behind)
+  pub none_before : Each P before
+  pub none_behind : Each P behind
+
+once_front : {A : Type 0} (P : A → Type 0) (run ys xs : List A) → Each P ys → OnceIn P run xs → OnceIn P run (ys ++ xs)
+once_front P run ys xs h o =
+    record { before = ys ++ o.before; behind = o.behind; are = ap (λ z. ys ++ z) o.are ∙ sym (append_assoc ys o.before _); none_before = each_both P ys o.before h o.none_before; none_behind = o.none_behind }
+
+once_back : {A : Type 0} (P : A → Type 0) (run ys xs : List A) → Each P ys → OnceIn P run xs → OnceIn P run (xs ++ ys)
+once_back P run ys xs h o =
+    record { before = o.before; behind = o.behind ++ ys; are = ap (λ z. z ++ ys) o.are ∙ (append_assoc o.before _ ys ∙ ap (λ z. o.before ++ z) (append_assoc run o.behind ys)); none_before = o.none_before; none_behind = each_both P o.behind ys o.none_behind h }
+
+pub once_around : {A : Type 0} (P : A → Type 0) (run xs ys zs : List A) → Each P xs → Each P zs → OnceIn P run ys → OnceIn P run (xs ++ (ys ++ zs))
+once_around P run xs ys zs h k o = once_front P run xs (ys ++ zs) h (once_back P run zs ys k o)
+
 -- no bit of the field n
 abbrev pub NotOf : ℕ → ExactBit → Type 0
 NotOf n (Given b) = Unit {0}
@@ -62,20 +81,8 @@ abbrev pub Without : ℕ → List ExactBit → Type 0
 Without n xs = Each (NotOf n) xs
 
 -- the field's bits stand once, one behind the other
-pub record Once (n : ℕ) (ty : Ty) (xs : List ExactBit) : Type 0 where
-  pub before : List ExactBit
-  pub behind : List ExactBit
-  pub are : xs ≡ before ++ (run_below n ty (width_of ty) ++ behind)
-  pub none_before : Without n before
-  pub none_behind : Without n behind
-
-once_front : (n : ℕ) (ty : Ty) (ys xs : List ExactBit) → Without n ys → Once n ty xs → Once n ty (ys ++ xs)
-once_front n ty ys xs h o =
-    record { before = ys ++ o.before; behind = o.behind; are = ap (λ z. ys ++ z) o.are ∙ sym (append_assoc ys o.before _); none_before = each_both (NotOf n) ys o.before h o.none_before; none_behind = o.none_behind }
-
-once_back : (n : ℕ) (ty : Ty) (ys xs : List ExactBit) → Without n ys → Once n ty xs → Once n ty (xs ++ ys)
-once_back n ty ys xs h o =
-    record { before = o.before; behind = o.behind ++ ys; are = ap (λ z. z ++ ys) o.are ∙ (append_assoc o.before _ ys ∙ ap (λ z. o.before ++ z) (append_assoc (run_below n ty (width_of ty)) o.behind ys)); none_before = o.none_before; none_behind = each_both (NotOf n) o.behind ys o.none_behind h }
+abbrev pub Once : ℕ → Ty → List ExactBit → Type 0
+Once n ty xs = OnceIn (NotOf n) (run_below n ty (width_of ty)) xs
 
 -- a directive for each argument
 abbrev pub Enough : {A : Type 0} → List FormatPiece → List A → Type 0
@@ -102,29 +109,29 @@ abbrev times_in : Text → List Name → ℕ
 times_in q [] = 0
 times_in q (n ∷ ns) = cond (text_eq q n.text) (1 + times_in q ns) (times_in q ns)
 
-abbrev pub Others : ℕ → Text → List (Text × List ExactBit) → Type 0
-Others n q xs = (r : Text) → text_eq q r ≡ false → Without n (given xs r)
+abbrev pub Others : {A : Type 0} → (A → Type 0) → Text → List (Text × List A) → Type 0
+Others P q xs = (r : Text) → text_eq q r ≡ false → Each P (given xs r)
 
-without_put : (ps : List FormatPiece) (args : List (ℕ × Arg)) (xs : List (Text × List ExactBit)) (q : Text) (n : ℕ) → times q args ≡ 0 → Others n q xs
-    → Without n (put_in (λ c. Given (bit c)) ps (map (λ (comma, a). given xs a.name.text) args))
-without_put [] args xs q n h k = tt
-without_put (Letter c ∷ ps) args xs q n h k = (tt, without_put ps args xs q n h k)
-without_put (Directive digits l ∷ ps) [] xs q n h k = without_put ps [] xs q n h k
-without_put (Directive digits l ∷ ps) ((comma, a) ∷ args) xs q n h k =
+without_put : {A : Type 0} (P : A → Type 0) (letter : ℕ → A) (ps : List FormatPiece) (args : List (ℕ × Arg)) (xs : List (Text × List A)) (q : Text) → ((c : ℕ) → P (letter c)) → times q args ≡ 0 → Others P q xs
+    → Each P (put_in letter ps (map (λ (comma, a). given xs a.name.text) args))
+without_put P letter [] args xs q l h k = tt
+without_put P letter (Letter c ∷ ps) args xs q l h k = (l c, without_put P letter ps args xs q l h k)
+without_put P letter (Directive digits d ∷ ps) [] xs q l h k = without_put P letter ps [] xs q l h k
+without_put P letter (Directive digits d ∷ ps) ((comma, a) ∷ args) xs q l h k =
     elim (split_count (text_eq q a.name.text) (times q args) 0 h) [
       | inl s ↦ absurd (omega (arith, s.1))
-      | inr s ↦ each_both (NotOf n) (given xs a.name.text) _ (k a.name.text s.0) (without_put ps args xs q n s.1 k)
+      | inr s ↦ each_both P (given xs a.name.text) _ (k a.name.text s.0) (without_put P letter ps args xs q l s.1 k)
     ]
 
-once_put : (ps : List FormatPiece) (args : List (ℕ × Arg)) (xs : List (Text × List ExactBit)) (q : Text) (n : ℕ) (ty : Ty) → times q args ≡ 1 → Enough ps args → Others n q xs → Once n ty (given xs q)
-    → Once n ty (put_in (λ c. Given (bit c)) ps (map (λ (comma, a). given xs a.name.text) args))
-once_put ps [] xs q n ty h e k o = absurd (omega (arith, h))
-once_put [] (a ∷ args) xs q n ty h e k o = absurd e
-once_put (Letter c ∷ ps) ((comma, a) ∷ args) xs q n ty h e k o = once_front n ty (Given (bit c) ∷ []) _ (tt, tt) (once_put ps ((comma, a) ∷ args) xs q n ty h e k o)
-once_put (Directive digits l ∷ ps) ((comma, a) ∷ args) xs q n ty h e k o =
+once_put : {A : Type 0} (P : A → Type 0) (run : List A) (letter : ℕ → A) (ps : List FormatPiece) (args : List (ℕ × Arg)) (xs : List (Text × List A)) (q : Text) → ((c : ℕ) → P (letter c)) → times q args ≡ 1 → Enough ps args
+    → Others P q xs → OnceIn P run (given xs q) → OnceIn P run (put_in letter ps (map (λ (comma, a). given xs a.name.text) args))
+once_put P run letter ps [] xs q l h e k o = absurd (omega (arith, h))
+once_put P run letter [] (a ∷ args) xs q l h e k o = absurd e
+once_put P run letter (Letter c ∷ ps) ((comma, a) ∷ args) xs q l h e k o = once_front P run (letter c ∷ []) _ (l c, tt) (once_put P run letter ps ((comma, a) ∷ args) xs q l h e k o)
+once_put P run letter (Directive digits d ∷ ps) ((comma, a) ∷ args) xs q l h e k o =
     elim (split_count (text_eq q a.name.text) (times q args) 1 h) [
-      | inl s ↦ once_back n ty _ (given xs a.name.text) (without_put ps args xs q n (omega (arith, s.1)) k) (subst (λ r. Once n ty (given xs r)) ((bytes_decides q a.name.text).0 s.0) o)
-      | inr s ↦ once_front n ty (given xs a.name.text) _ (k a.name.text s.0) (once_put ps args xs q n ty s.1 e k o)
+      | inl s ↦ once_back P run _ (given xs a.name.text) (without_put P letter ps args xs q l (omega (arith, s.1)) k) (subst (λ r. OnceIn P run (given xs r)) ((bytes_decides q a.name.text).0 s.0) o)
+      | inr s ↦ once_front P run (given xs a.name.text) _ (k a.name.text s.0) (once_put P run letter ps args xs q l s.1 e k o)
     ]
 
 mention_is : (q : Text) (ns : List Name) → times_in q ns ≡ count_by (λ n. text_eq q n.text) ns
@@ -134,14 +141,16 @@ times_is : (q : Text) (args : List (ℕ × Arg)) → times_in q (map (λ (comma,
 times_is q [] = refl
 times_is q ((comma, a) ∷ args) = ap (λ m. cond (text_eq q a.name.text) (1 + m) m) (times_is q args)
 
-pub once_text : (text : Template) (xs : List (Text × List ExactBit)) (q : Text) (n : ℕ) (ty : Ty) → mentions q text ≡ 1 → IsFilled text → Others n q xs → Once n ty (given xs q) → Once n ty (text_of (λ c. Given (bit c)) xs text)
-once_text (template.Plain s) xs q n ty h e k o = absurd (omega (arith, h))
-once_text (template.Part m dot a) xs q n ty h e k o =
+pub once_text : {A : Type 0} (P : A → Type 0) (run : List A) (letter : ℕ → A) (text : Template) (xs : List (Text × List A)) (q : Text) → ((c : ℕ) → P (letter c)) → mentions q text ≡ 1 → IsFilled text
+    → Others P q xs → OnceIn P run (given xs q) → OnceIn P run (text_of letter xs text)
+once_text P run letter (template.Plain s) xs q l h e k o = absurd (omega (arith, h))
+once_text P run letter (template.Part m dot a) xs q l h e k o =
     elim (split_count (text_eq q m.text) 0 1 (mention_is q (m ∷ []) ∙ h)) [
-      | inl s ↦ subst (λ r. Once n ty (given xs r)) ((bytes_decides q m.text).0 s.0) o
+      | inl s ↦ subst (λ r. OnceIn P run (given xs r)) ((bytes_decides q m.text).0 s.0) o
       | inr s ↦ absurd (omega (arith, s.1))
     ]
-once_text (template.Format at p s args r) xs q n ty h e k o = once_put (pieces s.text) args xs q n ty (sym (times_is q args) ∙ (mention_is q (map (λ (comma, a). a.name) args) ∙ h)) e k o
+once_text P run letter (template.Format at p s args r) xs q l h e k o =
+    once_put P run letter (pieces s.text) args xs q l (sym (times_is q args) ∙ (mention_is q (map (λ (comma, a). a.name) args) ∙ h)) e k o
 
 -- the type of the field n, where the first has the number m
 abbrev pub TypeAt : List Ty → (m n : ℕ) → Ty → Type 0
@@ -182,18 +191,18 @@ mutual
   types_of_long (Part name d args) = length-append (types d) _ ∙ (omega (arith, types_long d, types_of_long args) ∙ sym (length-append (fields d) _))
   types_of_long (Field name ty z args) = ap suc (types_of_long args)
 
-abbrev Outside : (n m long : ℕ) → Type 0
+abbrev pub Outside : (n m long : ℕ) → Type 0
 Outside n m long = (n < m) ⊎ (m + long ≤ n)
 
-outside_front : (n m a b : ℕ) → Outside n m (a + b) → Outside n m a
+pub outside_front : (n m a b : ℕ) → Outside n m (a + b) → Outside n m a
 outside_front n m a b (inl h) = inl h
 outside_front n m a b (inr h) = inr (omega (arith, h))
 
-outside_back : (n m a b : ℕ) → Outside n m (a + b) → Outside n (m + a) b
+pub outside_back : (n m a b : ℕ) → Outside n m (a + b) → Outside n (m + a) b
 outside_back n m a b (inl h) = inl (omega (arith, h))
 outside_back n m a b (inr h) = inr (omega (arith, h))
 
-outside_other : (n m a : ℕ) → Outside n m (suc a) → n ≢ m
+pub outside_other : (n m a : ℕ) → Outside n m (suc a) → n ≢ m
 outside_other n m a (inl h) e = omega (arith, h, e)
 outside_other n m a (inr h) e = omega (arith, h, e)
 

@@ -6,4 +6,5 @@ ghost use Rattle.nml_tree.specs.Derivation.{Derivation, IsDerivation, picks};
 /// tmp
 pub fn words()
     ensures one { (t : Table) (name : Text) (d e : Derivation) (n : ℕ) → IsDerivation t name d → IsDerivation t name e → picks d ≡ picks e → picks d ≡ picks e }
+    ensures two { (n : ℕ) → n ≡ n }
 {}

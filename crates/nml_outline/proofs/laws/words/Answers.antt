@@ -1,8 +1,14 @@
+use Rattle.std.proofs.Common.{refl}
 use Rattle.nml_outline.proofs.FlatText.{one_flat}
 use Rattle.nml_outline.proofs.ShapesMeet.{one_image}
+use Rattle.nml_outline.proofs.ShapeTokens.{same_tokens}
+use Rattle.nml_outline.proofs.Choice.{choose}
 use Rattle.nml_outline.proofs.Linear.{images_once}
 use Rattle.nml_outline.proofs.Filled.{right_filled}
 use Rattle.nml_outline.proofs.laws.words.Goals as goal
 
 pub returns-clause-one : goal.returns-clause-one
-returns-clause-one c = λ t name d e n h k same. let f = one_flat t name d e n h k same in let g = one_image in let l = images_once in let r = right_filled in same
+returns-clause-one c = λ t name d e n h k same. same
+
+pub returns-clause-two : goal.returns-clause-two
+returns-clause-two c = λ n. refl
