@@ -18,3 +18,5 @@ pub mod NumberText
 pub mod Tokens
 pub mod ShapeTokens
 pub mod Choice
+pub mod Premises
+pub mod TemplateOnce
