@@ -20,3 +20,5 @@ pub mod ShapeTokens
 pub mod Choice
 pub mod Premises
 pub mod TemplateOnce
+pub mod Listed
+pub mod ShapeWord

@@ -1,10 +1,8 @@
 use Rattle.std.proofs.Common.{refl}
-use Rattle.nml_outline.proofs.FlatText.{one_flat}
-use Rattle.nml_outline.proofs.ShapesMeet.{one_image}
 use Rattle.nml_outline.proofs.ShapeTokens.{same_tokens}
 use Rattle.nml_outline.proofs.Choice.{choose}
-use Rattle.nml_outline.proofs.Premises.{linear_images, linear_texts, has_types, no_touch, one_width}
 use Rattle.nml_outline.proofs.TemplateOnce.{token_once}
+use Rattle.nml_outline.proofs.ShapeWord.{word_is_root}
 use Rattle.nml_outline.proofs.laws.words.Goals as goal
 
 pub returns-clause-one : goal.returns-clause-one
