@@ -22,3 +22,5 @@ pub mod Premises
 pub mod TemplateOnce
 pub mod Listed
 pub mod ShapeWord
+pub mod FirstPair
+pub mod FirstImage
