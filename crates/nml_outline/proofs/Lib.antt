@@ -24,3 +24,6 @@ pub mod Listed
 pub mod ShapeWord
 pub mod FirstPair
 pub mod FirstImage
+pub mod ShapeFields
+pub mod FirstSyntax
+pub mod LeastText

@@ -63,7 +63,7 @@ one_types t name d e h k same =
     sym (types_with d (λ i. pos 0) 0) ∙ (ap types (one_shape t name d e (λ i. pos 0) h k same) ∙ types_with e (λ i. pos 0) 0)
 
 mutual
-  with_same : (d : Derivation) (f g : ℕ → ℤ) (m : ℕ) → ((n : ℕ) (ty : Ty) → TypeAt (types d) m n ty → f n ≡ g n) → with_fields f m d ≡ with_fields g m d
+  pub with_same : (d : Derivation) (f g : ℕ → ℤ) (m : ℕ) → ((n : ℕ) (ty : Ty) → TypeAt (types d) m n ty → f n ≡ g n) → with_fields f m d ≡ with_fields g m d
   with_same (Pick k d) f g m h = ap (λ x. Pick k x) (with_same d f g m h)
   with_same (Compose rule args) f g m h = ap (λ x. Compose rule x) (args_same args f g m h)
 

@@ -1,6 +1,6 @@
-use Rattle.nml_outline.proofs.ShapeTokens.{same_tokens}
-use Rattle.nml_outline.proofs.Choice.{choose}
-use Rattle.nml_outline.proofs.TemplateOnce.{token_once}
+use Rattle.nml_outline.proofs.FirstSyntax.{first_syntax_pair}
+use Rattle.nml_outline.proofs.LeastText.{least_pair}
+
 use Rattle.nml_outline.proofs.ShapeWord.{word_is_root, root_is_word}
 use Rattle.nml_outline.proofs.FirstImage.{one_image, first_image_pair}
 use Rattle.nml_outline.proofs.laws.words.Goals as goal
