@@ -3,4 +3,4 @@
 
 mod laws;
 
-pub use laws::words;
+pub use laws::{texts, words};

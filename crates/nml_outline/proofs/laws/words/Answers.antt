@@ -1,5 +1,3 @@
-use Rattle.nml_outline.proofs.FirstSyntax.{first_syntax_pair}
-use Rattle.nml_outline.proofs.LeastText.{least_pair}
 
 use Rattle.nml_outline.proofs.ShapeWord.{word_is_root, root_is_word}
 use Rattle.nml_outline.proofs.FirstImage.{one_image, first_image_pair}
