@@ -1,5 +1,5 @@
 -- Instructions are known by their images where no two shapes have a word in common; and else the first two shapes tell the first two instructions with one image.
-use Rattle.std.proofs.Common.{ℕ, ◌^◌, ◌<◌, ◌≤◌, ◌≡◌, refl, sym, ◌∙◌, ap, subst, Bool, List, Some, Contains, codes, length, arith}
+use Rattle.std.proofs.Common.{ℕ, ◌^◌, ◌<◌, ◌≤◌, ◌≡◌, sym, ◌∙◌, ap, subst, Bool, List, Some, Contains, codes, length, arith}
 use Rattle.std.specs.Prelude.{slice_get}
 use Rattle.nml_tree.specs.declared.tree.Desc.{Desc}
 use Rattle.nml_tree.specs.Attribute.{number_of}
@@ -76,7 +76,7 @@ module _ (d : Desc) (free : IsFreeBelow 12 d) (shapes : List Shape) (all : AreAl
         is = record {
           shapes = first_shapes d shapes all (List Bool) image HaveWord meet i j a b x.0 y.0 fp ea eb x.1 y.1 x.2 y.2 same;
           least = λ v w alike pv pw. subst (λ n. n ≤ word_of v) (sym x.3) (least.2 (word_of v) (has_word d free shapes all a v ca alike.first (pv ∙ x.2))
-          (subst (HasWord b) (sym (ap number_of alike.same)) (has_word d free shapes all b w cb alike.second (pw ∙ y.2))));
+              (subst (HasWord b) (sym (ap number_of alike.same)) (has_word d free shapes all b w cb alike.second (pw ∙ y.2))));
         };
         first = x.2;
         second = y.2;

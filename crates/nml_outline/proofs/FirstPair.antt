@@ -1,5 +1,5 @@
 -- Two instructions with one attribute stand in two shapes that meet; and where only one instruction of a shape has it, in the first of these.
-use Rattle.std.proofs.Common.{ℕ, ◌<◌, ◌≤◌, ◌≡◌, refl, sym, ◌∙◌, ap, subst, List, Some, Contains, arith, ◌⊎◌, inl, inr}
+use Rattle.std.proofs.Common.{ℕ, ◌<◌, ◌≤◌, ◌≡◌, sym, ◌∙◌, ap, subst, List, Some, Contains, arith, ◌⊎◌, inl, inr}
 use Rattle.std.specs.Prelude.{IsTrue, slice_get}
 use Rattle.nml_tree.specs.declared.tree.Desc.{Desc}
 use Rattle.nml_tree.specs.Table.{table}
@@ -33,10 +33,13 @@ module _ (d : Desc) (shapes : List Shape) (all : AreAllShapes d shapes) where
       → picks x ≡ a.picks.items → picks y ≡ b.picks.items → picks v ≡ c.picks.items → picks w ≡ e.picks.items → (i < k) ⊎ ((i ≡ k) × (j ≤ l)) → AreNoLater x y v w
   no_later i j k l a b c e x y v w ea eb ec ee px py pv pw (inl low) = inl (at_before i k a c x v ea ec px pv low)
   no_later i j k l a b c e x y v w ea eb ec ee px py pv pw (inr (same, most)) =
-      inr (at_same i k a c x v ea ec px pv same, elim (compare j l) [
-        | inl low ↦ inl (at_before j l b e y w eb ee py pw low)
-        | inr r ↦ elim r [ inl equal ↦ inr (at_same j l b e y w eb ee py pw equal) | inr high ↦ absurd (omega (arith, high, most)) ]
-      ])
+      inr (
+        at_same i k a c x v ea ec px pv same,
+        elim (compare j l) [
+          | inl low ↦ inl (at_before j l b e y w eb ee py pw low)
+          | inr r ↦ elim r [ inl equal ↦ inr (at_same j l b e y w eb ee py pw equal) | inr high ↦ absurd (omega (arith, high, most)) ]
+        ],
+      )
 
   module _ (A : Type 0) (attribute : Derivation → A) (P : Shape → Shape → Type 0) (meet : Meets d shapes A attribute P) where
     pair_of : (v w : Derivation) (k l : ℕ) (c e : Shape) → IsRoot (table d) v → IsRoot (table d) w → slice_get shapes k ≡ Some c → slice_get shapes l ≡ Some e → picks v ≡ c.picks.items → picks w ≡ e.picks.items

@@ -1,9 +1,9 @@
 -- Instructions are known by their tokens where no two shapes have a list of tokens in common; and else the first two shapes tell the first two instructions with one.
-use Rattle.std.proofs.Common.{ℕ, zero, suc, ◌<◌, ◌≤◌, ◌≡◌, refl, sym, ◌∙◌, ap, subst, Bool, false, ℤ, List, [], ◌∷◌, map, Some, Contains, codes, length, arith}
-use Rattle.std.specs.Prelude.{◌≤ℤ◌, slice_get}
+use Rattle.std.proofs.Common.{ℕ, zero, suc, ◌<◌, ◌≡◌, sym, ◌∙◌, ap, subst, false, ℤ, List, [], ◌∷◌, map, Some, Contains, codes, arith}
+use Rattle.std.specs.Prelude.{slice_get}
 use Rattle.nk_base.specs.declared.number.Ty.{Ty}
 use Rattle.nml_tree.specs.declared.tree.Desc.{Desc}
-use Rattle.nml_tree.specs.LineToken.{LineToken, Number}
+use Rattle.nml_tree.specs.LineToken.{LineToken}
 use Rattle.nml_tree.specs.Table.{table}
 use Rattle.nml_tree.specs.Derivation.{Derivation, picks, fields}
 use Rattle.nml_tree.specs.Edge.{has_touch}

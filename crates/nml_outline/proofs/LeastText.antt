@@ -1,6 +1,6 @@
 -- Two shapes that have a list of tokens in common have one with the least number in each field.
-use Rattle.std.proofs.Common.{ℕ, zero, suc, ◌+◌, ◌-◌, ◌^◌, ◌<◌, ◌≤◌, ◌≡◌, refl, sym, ◌∙◌, ap, subst, ℤ, pos, negsuc, List, [], ◌∷◌, map, length, Some, arith, ◌⊎◌, inl, inr}
-use Rattle.std.specs.Prelude.{◌≤ℤ◌, ◌<ℤ◌, neg_ℤ, slice_get}
+use Rattle.std.proofs.Common.{ℕ, zero, suc, ◌-◌, ◌^◌, ◌≤◌, ◌≡◌, refl, sym, ◌∙◌, ap, subst, ℤ, pos, negsuc, List, [], ◌∷◌, map, Some, arith, ◌⊎◌, inl, inr}
+use Rattle.std.specs.Prelude.{◌≤ℤ◌, neg_ℤ, slice_get}
 use Rattle.std.proofs.lemmas.Int.{ints}
 use Rattle.std.proofs.lemmas.Nat.{pow_pos}
 use Rattle.nk_base.specs.Number.{InRange}
@@ -11,8 +11,8 @@ use Rattle.nml_tree.specs.Outline.{OutlineToken, Written, FieldAt, with_numbers,
 use Rattle.nml_tree.specs.Value.{number_at}
 use Rattle.nml_shape.specs.declared.shape.Shape.{Shape}
 use Rattle.nml_shape.specs.Shown.{token_of, types_of}
-use Rattle.nml_shape.specs.Common.{filled, AreSame, AreLeastSame, AreAtMost, IsSingle}
-use Rattle.nml_outline.proofs.Choice.{NotIn, Single, token_with, Least, CanAgree, AllCanAgree, SameTokens, Below, Chosen, choose}
+use Rattle.nml_shape.specs.Common.{AreSame, AreLeastSame, IsSingle}
+use Rattle.nml_outline.proofs.Choice.{NotIn, Single, token_with, Least, CanAgree, AllCanAgree, SameTokens, choose}
 
 -- the range of the field of this number; what is no field is 0
 abbrev RangeAt : List Ty → ℕ → ℤ → Type 0

@@ -1,11 +1,11 @@
 -- A line's tokens in two parts, before a number that no digit and no `-` touches.
-use Rattle.std.proofs.Common.{ℕ, zero, suc, ◌+◌, ◌<◌, ◌≤◌, ◌==◌, ◌≡◌, refl, sym, ◌∙◌, ap, Bool, true, false, List, [], ◌∷◌, ◌++◌, append-nil, append_assoc, length, length-append, take, arith}
+use Rattle.std.proofs.Common.{ℕ, zero, suc, ◌+◌, ◌≤◌, ◌==◌, ◌≡◌, refl, sym, ◌∙◌, ap, Bool, true, false, List, [], ◌∷◌, ◌++◌, append-nil, append_assoc, length, take, arith}
 use Rattle.std.specs.Prelude.{◌&&◌, if◌then◌else◌, cond, nat_lt, pos, neg_ℤ, take_while}
 use Rattle.std.specs.Char.{is_ascii_digit}
 use Rattle.std.specs.List.{prefix_len}
 use Rattle.std.specs.Str.Parse.{digits_value}
 use Rattle.nk_base.specs.Byte.{is_name_start, is_blank}
-use Rattle.nml_tree.specs.LineToken.{LineToken, Word, Number, Mark, Begun, begun, number_in_front, tokens_behind, line_tokens}
+use Rattle.nml_tree.specs.LineToken.{Word, Number, Mark, Begun, begun, number_in_front, tokens_behind, line_tokens}
 
 -- the first byte passes
 abbrev pub begins : (ℕ → Bool) → List ℕ → Bool

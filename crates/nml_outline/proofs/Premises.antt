@@ -1,9 +1,7 @@
 -- What a typed description gives its derivations: images and syntaxes that name each parameter once, types of 1 to 64 bits, and that nothing touches.
-use Rattle.std.proofs.Common.{ℕ, zero, suc, ◌+◌, ◌<◌, ◌≤◌, ◌==◌, ◌≡◌, refl, sym, ◌∙◌, ap, subst, Bool, true, false, List, [], ◌∷◌, ◌++◌, map, length, Option, Some, None, Contains, arith, ◌⊎◌, inl, inr}
-use Rattle.std.specs.Prelude.{cond, flat_map, ◌&&◌, ◌||◌, codes}
-use Rattle.std.specs.List.{list_any}
+use Rattle.std.proofs.Common.{ℕ, zero, suc, ◌+◌, ◌≡◌, refl, sym, ap, subst, Bool, true, false, List, [], ◌∷◌, ◌++◌, map, length, Option, Some, None, Contains, arith, ◌⊎◌, inl, inr}
+use Rattle.std.specs.Prelude.{cond, flat_map, ◌||◌, codes}
 use Rattle.std.specs.Map.{lookup}
-use Rattle.std.specs.Cmp.Lexicographic.{bytes_decides}
 use Rattle.std.proofs.lemmas.Bool.{and_parts, leb-true}
 use Rattle.std.proofs.lemmas.List.Elements.{Contains-append_left, Contains-push}
 use Rattle.nk_base.specs.Number.{IsTy}
@@ -19,13 +17,12 @@ use Rattle.nml_tree.specs.declared.tree.Desc.{Desc}
 use Rattle.nml_tree.specs.declared.tree.Par.{Par}
 use Rattle.nml_tree.specs.Table.{Text, Table, Rule, Declared, declared, table, entry, entries, port_of, Parameter, parameter_of}
 use Rattle.nml_tree.specs.Derivation.{Derivation, Arguments, Pick, Compose, NoMore, Part, Field, IsDerivation, Fill}
-use Rattle.nml_tree.specs.Directives.{Syntax, Image, is_right, text_place}
+use Rattle.nml_tree.specs.Directives.{Syntax, Image, text_place}
 use Rattle.nml_tree.specs.Edge.{has_touch}
 use Rattle.nml_tree.specs.Image.{image}
 use Rattle.nml_tree.specs.NameFault.{is_among, item_name_places, name_places_from, name_places, unknown_places, declared_places, shared_places}
 use Rattle.nml_tree.specs.NameFault as name_fault
 use Rattle.nml_tree.specs.Outline.{types, types_of}
-use Rattle.nml_tree.specs.Places.{when, unless}
 use Rattle.nml_tree.specs.Refused.{IsFreeBelow, By_name, By_type, By_mention, By_word, By_edge}
 use Rattle.nml_tree.specs.TypeFault.{rule_places, item_places, type_fault_places}
 use Rattle.nml_tree.specs.Uses.{parameters}

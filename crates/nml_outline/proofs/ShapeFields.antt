@@ -1,5 +1,5 @@
 -- Numbers for the fields of a shape: in range they are those of an instruction.
-use Rattle.std.proofs.Common.{ℕ, zero, suc, ◌+◌, ◌<◌, ◌≤◌, ◌≡◌, refl, sym, ◌∙◌, ap, subst, ℤ, List, [], ◌∷◌, ◌++◌, length, length-append, arith, inl, inr}
+use Rattle.std.proofs.Common.{ℕ, zero, suc, ◌+◌, ◌≡◌, refl, sym, ◌∙◌, ap, subst, ℤ, List, [], ◌∷◌, ◌++◌, length, arith, inl, inr}
 use Rattle.nk_base.specs.Number.{InRange}
 use Rattle.nk_base.specs.declared.number.Ty.{Ty}
 use Rattle.nml_tree.specs.Table.{Text, Table}

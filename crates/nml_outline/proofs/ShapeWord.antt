@@ -1,5 +1,5 @@
 -- The words of a shape are those of its instructions, and the numbers in their fields are read off them.
-use Rattle.std.proofs.Common.{ℕ, zero, suc, ◌+◌, ◌-◌, ◌/◌, ◌%◌, ◌^◌, ◌<◌, ◌≤◌, ◌≡◌, refl, sym, ◌∙◌, ap, subst, ℤ, pos, negsuc, List, [], ◌∷◌, map, length, Some, Contains, codes, arith, inl, inr}
+use Rattle.std.proofs.Common.{ℕ, zero, suc, ◌+◌, ◌-◌, ◌/◌, ◌%◌, ◌^◌, ◌<◌, ◌≤◌, ◌≡◌, refl, sym, ◌∙◌, ap, subst, ℤ, pos, negsuc, List, [], ◌∷◌, length, Some, Contains, codes, arith, inl, inr}
 use Rattle.std.specs.Prelude.{◌-ℤ◌, unsigned_abs, int_lt, if◌then◌else◌, slice_get}
 use Rattle.std.proofs.lemmas.Bool.Decides.{nat_tests}
 use Rattle.std.proofs.lemmas.Int.{ints, int_rem_euclid_is}
@@ -18,7 +18,7 @@ use Rattle.nml_tree.specs.Valid.{IsRoot, IsWordWidth}
 use Rattle.nml_tree.specs.Refused.{IsFreeBelow}
 use Rattle.nml_shape.specs.declared.shape.FieldAt.{FieldAt}
 use Rattle.nml_shape.specs.declared.shape.Shape.{Shape}
-use Rattle.nml_shape.specs.Shown.{types_of, number_in, numbers_in, picks_of, IsShapeOf, AreAllShapes}
+use Rattle.nml_shape.specs.Shown.{types_of, number_in, numbers_in, IsShapeOf, AreAllShapes}
 use Rattle.nml_shape.specs.Common.{HasWord}
 use Rattle.nml_outline.proofs.Ranges.{small, pos_low, neg_low, half}
 use Rattle.nml_outline.proofs.Stands.{TypeAt, types_long}

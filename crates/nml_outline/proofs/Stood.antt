@@ -14,8 +14,8 @@ use Rattle.nml_tree.specs.Derivation.{Derivation, Arguments, Pick, Compose, NoMo
 use Rattle.nml_tree.specs.Template.{given}
 use Rattle.nml_tree.specs.Image.{bit}
 use Rattle.nml_tree.specs.Outline.{types, types_of}
-use Rattle.nml_outline.proofs.ExactBits.{ExactBit, Given, exact, exacts, run_below}
-use Rattle.nml_outline.proofs.Stands.{Each, each_given, NotOf, Without, OnceIn, Once, IsFilled, Others, once_text, TypeAt, type_either, type_within, types_long, without, withouts, run_without}
+use Rattle.nml_outline.proofs.ExactBits.{Given, exact, exacts, run_below}
+use Rattle.nml_outline.proofs.Stands.{Each, each_given, NotOf, OnceIn, Once, IsFilled, Others, once_text, TypeAt, type_either, type_within, types_long, without, withouts, run_without}
 
 -- no parameter has this name
 abbrev pub NotAmong : Text → List Par → Type 0

@@ -1,10 +1,9 @@
 -- The tokens of a derivation are its shape's template with its numbers, where nothing touches.
 use Rattle.std.proofs.Common.{ℕ, ◌==◌, ◌≡◌, refl, sym, ◌∙◌, ap, Bool, true, false, ℤ, List, [], ◌∷◌, ◌++◌, append-nil, append_assoc, map}
-use Rattle.std.specs.Prelude.{◌||◌, if◌then◌else◌}
+use Rattle.std.specs.Prelude.{◌||◌}
 use Rattle.std.specs.Char.{is_ascii_digit}
 use Rattle.std.specs.Fmt.{signed_decimal}
 use Rattle.std.proofs.lemmas.List.{map-append}
-use Rattle.nk_base.specs.Byte.{is_name_start, is_blank}
 use Rattle.nml_tree.specs.LineToken.{LineToken, Number, line_tokens}
 use Rattle.nml_tree.specs.Derivation.{Derivation, fields}
 use Rattle.nml_tree.specs.Value.{number_at}

@@ -1,4 +1,3 @@
-
 use Rattle.nml_outline.proofs.ShapeWord.{word_is_root, root_is_word}
 use Rattle.nml_outline.proofs.FirstImage.{one_image, first_image_pair}
 use Rattle.nml_outline.proofs.laws.words.Goals as goal
