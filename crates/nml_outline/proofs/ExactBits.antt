@@ -46,6 +46,7 @@ abbrev mutual
   with_args f n (Part name d args) = Part name (with_fields f n d) (with_args f (n + length (fields d)) args)
   with_args f n (Field name ty z args) = Field name ty (f n) (with_args f (n + 1) args)
 
+-- a bit of a field without its place in it
 abbrev pub forget : ExactBit → OutlineBit
 forget (Given b) = Fixed b
 forget (BitOf n ty k) = Free n

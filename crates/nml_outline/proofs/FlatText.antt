@@ -14,7 +14,7 @@ use Rattle.nml_tree.specs.Derivation.{Derivation, Arguments, Pick, Compose, NoMo
 use Rattle.nml_tree.specs.Template.{put_in, given, text_of}
 use Rattle.nml_tree.specs.Syntax.{syntax_of, syntaxes}
 use Rattle.nml_tree.specs.Value.{number_at}
-use Rattle.nml_tree.specs.Edge.{Flat, Letter, Number, Seam, Left, flat, flats, touches, has_touch}
+use Rattle.nml_tree.specs.Edge.{Flat, Letter, Number, Seam, flat, flats}
 use Rattle.nml_tree.specs.Outline as outline
 use Rattle.nml_outline.proofs.ExactBits.{with_fields, with_args}
 use Rattle.nml_outline.proofs.SameShape.{own, one_shape, fields_long}
@@ -32,6 +32,7 @@ written_both f (Letter c ∷ xs) ys = ap (λ zs. c ∷ zs) (written_both f xs ys
 written_both f (Number n ∷ xs) ys = ap (λ zs. signed_decimal (f n) ++ zs) (written_both f xs ys) ∙ sym (append_assoc (signed_decimal (f n)) (written f xs) (written f ys))
 written_both f (Seam ∷ xs) ys = written_both f xs ys
 
+-- of each parameter
 abbrev each_written : (ℕ → ℤ) → List (Text × List Flat) → List (Text × List ℕ)
 each_written f [] = []
 each_written f (x ∷ xs) = (x.0, written f x.1) ∷ each_written f xs
@@ -93,7 +94,3 @@ one_flat t name d e n h k same = sym (flat_with d (λ i. pos 0) 0 n) ∙ (ap (fl
 -- one template for a shape
 pub one_template : (t : Table) (name : Text) (d e : Derivation) → IsDerivation t name d → IsDerivation t name e → picks d ≡ picks e → outline.template d ≡ outline.template e
 one_template t name d e h k same = ap (outline.template_behind []) (one_flat t name d e 0 h k same)
-
--- nothing touches in one where nothing touches in the other
-pub one_touch : (t : Table) (name : Text) (d e : Derivation) → IsDerivation t name d → IsDerivation t name e → picks d ≡ picks e → has_touch d ≡ has_touch e
-one_touch t name d e h k same = ap (touches Left.Other) (one_flat t name d e 0 h k same)

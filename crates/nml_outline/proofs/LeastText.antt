@@ -20,11 +20,13 @@ RangeAt [] n z = z ≡ pos 0
 RangeAt (t ∷ ts) zero z = InRange t z
 RangeAt (t ∷ ts) (suc n) z = RangeAt ts n z
 
+-- the least number of a type
 abbrev lowest : Ty → ℤ
 lowest tys.Bool = pos 0
 lowest (tys.Card n) = pos 0
 lowest (tys.Int n) = neg_ℤ (pos (2 ^ (n - 1)))
 
+-- and of the field of this number
 abbrev lowest_at : List Ty → ℕ → ℤ
 lowest_at [] n = pos 0
 lowest_at (t ∷ ts) zero = lowest t

@@ -27,3 +27,4 @@ pub mod FirstImage
 pub mod ShapeFields
 pub mod FirstSyntax
 pub mod LeastText
+pub mod LeastWord

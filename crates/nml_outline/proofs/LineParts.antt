@@ -46,6 +46,7 @@ by_kind name digit minus blank c w k front m number =
     else if blank then record { token = []; more = 0 }
     else record { token = Mark c ∷ []; more = 0 }
 
+-- with the kind of this byte
 abbrev kind_of : ℕ → List ℕ → (k front m number : ℕ) → Begun
 kind_of c w k front m number = by_kind (is_name_start c) (is_ascii_digit c) (c == 45) (is_blank c) c w k front m number
 

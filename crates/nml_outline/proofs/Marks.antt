@@ -65,6 +65,7 @@ abbrev pub mark : (ℕ → ℕ → Bool) → ExactBit → Bool
 mark marks (Given b) = b
 mark marks (BitOf n ty k) = marks n k
 
+-- the bits with another one at this place of this field
 abbrev with_mark : (n k : ℕ) → Bool → (ℕ → ℕ → Bool) → ℕ → ℕ → Bool
 with_mark n k b marks m j = cond (m == n) (cond (j == k) b (marks m j)) (marks m j)
 
@@ -145,6 +146,7 @@ bit_is marks n v (suc w) k h low =
       last (suc k) zero h = absurd (omega (arith, h))
       last (suc k) (suc w) h = elim (last k w (omega (arith, h))) [ inl e ↦ inl (ap suc e) | inr l ↦ inr (omega (arith, l)) ]
 
+-- each field has a number in range whose bits are these
 abbrev pub AreMarked : (ℕ → ℕ → Bool) → List Ty → ℕ → (ℕ → ℤ) → Type 0
 AreMarked marks ts m f = (n : ℕ) (ty : Ty) → TypeAt ts m n ty → InRange ty (f n) × ((k : ℕ) → k < width_of ty → (unsigned_abs (low_bits (width_of ty) (f n)) / 2 ^ k % 2 == 1) ≡ marks n k)
 
@@ -158,6 +160,7 @@ one_number marks n ty h =
     let same : bs ≡ bits_below (width_of ty) (number_of bs) = same_bits bs (bits_below (width_of ty) (number_of bs)) (long ∙ sym (below_long (width_of ty) (number_of bs))) (sym (below_is (width_of ty) (number_of bs) small)) in
     (z.0, z.1, λ k low. ap (λ v. v / 2 ^ k % 2 == 1) z.2 ∙ bit_is marks n (number_of bs) (width_of ty) k same low)
 
+-- the numbers with another one for this field
 abbrev put : ℕ → ℤ → (ℕ → ℤ) → ℕ → ℤ
 put m z f n = cond (n == m) z (f n)
 

@@ -31,6 +31,7 @@ use Rattle.nml_outline.proofs.Listed.{picks_at}
 low_pos : (n a : ℕ) → a < 2 ^ n → low_bits n (pos a) ≡ pos a
 low_pos n a h = int_rem_euclid_is (pos a) (pos (2 ^ n)) (2 ^ n) 0 a (pow_pos n) refl (omega (arith, ints)) ∙ ap pos (small a n h)
 
+-- the number of two's complement that these lowest bits write
 abbrev signed : ℕ → ℤ → ℤ
 signed n low = if int_lt low (pos (2 ^ (n - 1))) then low else low -ℤ pos (2 ^ n)
 

@@ -1,31 +1,29 @@
--- A word is one derivation of a shape at most; two shapes have a word in common exactly where their fixed bits agree.
-use Rattle.std.proofs.Common.{ℕ, ◌+◌, ◌/◌, ◌%◌, ◌^◌, ◌≡◌, ◌≢◌, ◌<◌, ◌≤◌, refl, sym, ◌∙◌, ap, subst, Bool, true, false, ℤ, pos, List, [], ◌∷◌, map, length, arith, ◌⊎◌, inl, inr, bit_and, bit_or}
+-- A word is one derivation of a shape at most; two shapes whose fixed bits agree have a word in common.
+use Rattle.std.proofs.Common.{ℕ, ◌+◌, ◌/◌, ◌%◌, ◌^◌, ◌≡◌, ◌<◌, ◌≤◌, refl, sym, ◌∙◌, ap, subst, ℤ, pos, List, [], ◌∷◌, map, length, arith, inl, inr, bit_and, bit_or}
 use Rattle.std.specs.Prelude.{unsigned_abs, bit_xor, not, reverse}
 use Rattle.std.specs.List.{prefix_len}
 use Rattle.std.specs.Int.Bits.{or_lt}
-use Rattle.std.specs.Cmp.Lexicographic.{bytes_decides}
 use Rattle.std.proofs.lemmas.List.{length-map}
 use Rattle.nk_base.specs.Number.{IsTy, width_of, low_bits, InRange}
 use Rattle.nk_base.specs.declared.number.Ty.{Ty}
 use Rattle.nk_base.specs.declared.number.Ty.TheVariants as tys
-use Rattle.nk_base.specs.Text.{text_eq}
 use Rattle.nml_tree.specs.declared.tree.Par.{Par}
 use Rattle.nml_tree.specs.Attribute.{number_of}
 use Rattle.nml_tree.specs.Table.{Text, Table}
 use Rattle.nml_tree.specs.Derivation.{Derivation, Arguments, Pick, Compose, NoMore, Part, Field, IsDerivation, Fill, picks, fields, fields_of}
 use Rattle.nml_tree.specs.Image.{image, word_of}
 use Rattle.nml_tree.specs.Value.{number_at}
-use Rattle.nml_tree.specs.Outline.{OutlineBit, Fixed, Free, is_fixed, fixed_bit, is_free, types, types_of, outline_bits, mask, fixed_value, HasFixed, low}
+use Rattle.nml_tree.specs.Outline.{OutlineBit, Fixed, Free, is_fixed, fixed_bit, is_free, types, types_of, outline_bits, mask, fixed_value, low}
 use Rattle.nml_outline.proofs.ExactBits.{with_fields, with_args}
 use Rattle.nml_outline.proofs.MaskBits.{Fits, fits_is}
-use Rattle.nml_outline.proofs.SameShape.{Agrees, agrees_front, agrees_back, agrees_at, own, one_shape, one_outline, word_has}
+use Rattle.nml_outline.proofs.SameShape.{Agrees, agrees_front, agrees_back, agrees_at, own, one_shape, one_outline}
 use Rattle.nml_outline.proofs.WordBits.{number_below}
 use Rattle.nml_outline.proofs.Ranges.{one_number}
 use Rattle.nml_outline.proofs.Stands.{TypeAt, type_left, type_right, type_either, types_long}
 use Rattle.nml_outline.proofs.Stood.{HasLinearImages, stands}
 use Rattle.nml_outline.proofs.PlaceOf.{read_at}
 use Rattle.nml_outline.proofs.ShapeWords.{HasTypes, each_word, image_long}
-use Rattle.nml_outline.proofs.Bitwise.{agree, least_word, has_first, has_second}
+use Rattle.nml_outline.proofs.Bitwise.{has_first, has_second}
 
 mutual
   -- its numbers are in range
@@ -133,24 +131,7 @@ pub record Meeting (t : Table) (name : Text) (d e a b : Derivation) : Type 0 whe
   pub second_picks : picks b ≡ picks e
   pub word : word_of a ≡ word_of b
 
-has_of : (t : Table) (name : Text) (d a : Derivation) → IsDerivation t name d → IsDerivation t name a → picks a ≡ picks d → HasFixed (mask d) (fixed_value d) (word_of a)
-has_of t name d a h k same =
-    let o = one_mask t name a d k h same in
-    subst (λ m. HasFixed m (fixed_value d) (word_of a)) o.0 (subst (λ v. HasFixed (mask a) v (word_of a)) o.1 (word_has a))
-
--- only shapes without a clash meet
-pub meeting_agrees : (t : Table) (name : Text) (d e a b : Derivation) → IsDerivation t name d → IsDerivation t name e → Meeting t name d e a b → clash d e ≡ 0
-meeting_agrees t name d e a b h k m =
-    agree (word_of a) (mask d) (mask e) (fixed_value d) (fixed_value e) (has_of t name d a h m.first m.first_picks)
-    (subst (HasFixed (mask e) (fixed_value e)) (sym m.word) (has_of t name e b k m.second m.second_picks))
-
--- and their least word is what is fixed in one of them
-pub meeting_least : (t : Table) (name : Text) (d e a b : Derivation) → IsDerivation t name d → IsDerivation t name e → Meeting t name d e a b → bit_or (fixed_value d) (fixed_value e) ≤ word_of a
-meeting_least t name d e a b h k m =
-    least_word (word_of a) (mask d) (mask e) (fixed_value d) (fixed_value e) (has_of t name d a h m.first m.first_picks)
-    (subst (HasFixed (mask e) (fixed_value e)) (sym m.word) (has_of t name e b k m.second m.second_picks))
-
--- shapes without a clash meet in that word
+-- shapes without a clash meet in the word of what is fixed in one of them
 pub agreeing_meet : (t : Table) (name : Text) (d e : Derivation) → HasLinearImages t → IsDerivation t name d → IsDerivation t name e → HasTypes d → HasTypes e → length (image d) ≡ length (image e) → clash d e ≡ 0
     → (a : Derivation) × (b : Derivation) × Meeting t name d e a b × (word_of a ≡ bit_or (fixed_value d) (fixed_value e))
 agreeing_meet t name d e lin h k types_are types_too long none =
@@ -159,17 +140,3 @@ agreeing_meet t name d e lin h k types_are types_too long none =
     let a = each_word t name d w lin h types_are small (has_first (mask d) (mask e) (fixed_value d) (fixed_value e) (value_within d) (value_within e) none) in
     let b = each_word t name e w lin k types_too (subst (λ n. w < 2 ^ n) long small) (has_second (mask d) (mask e) (fixed_value d) (fixed_value e) (value_within d) (value_within e) none) in
     (a.0, b.0, record { first = a.1; second = b.1; first_picks = a.2; second_picks = b.2; word = a.3 ∙ sym b.3 }, a.3)
-
-same_or_not : (xs ys : List ℕ) (b : Bool) → text_eq xs ys ≡ b → (xs ≡ ys) ⊎ (xs ≢ ys)
-same_or_not xs ys true h = inl ((bytes_decides xs ys).0 h)
-same_or_not xs ys false h = inr (λ e. let k : text_eq xs ys ≡ true = (bytes_decides xs ys).1 e in absurd cc)
-
--- where each two shapes clash, no two derivations have one image
-pub one_image : (t : Table) (name : Text) → HasLinearImages t → ((d : Derivation) → IsDerivation t name d → HasTypes d)
-    → ((d e : Derivation) → IsDerivation t name d → IsDerivation t name e → picks d ≢ picks e → clash d e ≢ 0)
-    → (a b : Derivation) → IsDerivation t name a → IsDerivation t name b → image a ≡ image b → a ≡ b
-one_image t name lin types_are apart a b h k same =
-    elim (same_or_not (picks a) (picks b) (text_eq (picks a) (picks b)) refl) [
-      | inl e ↦ one_word t name a b lin h k (types_are a h) e (ap number_of same)
-      | inr n ↦ absurd (apart a b h k n (meeting_agrees t name a b a b h k (record { first = h; second = k; first_picks = refl; second_picks = refl; word = ap number_of same })))
-    ]

@@ -77,6 +77,7 @@ abbrev pub NotOf : ℕ → ExactBit → Type 0
 NotOf n (Given b) = Unit {0}
 NotOf n (BitOf m ty k) = n ≢ m
 
+-- at each place
 abbrev pub Without : ℕ → List ExactBit → Type 0
 Without n xs = Each (NotOf n) xs
 
@@ -91,6 +92,7 @@ Enough [] (a ∷ args) = ⊥
 Enough (Letter c ∷ ps) (a ∷ args) = Enough ps (a ∷ args)
 Enough (Directive digits k ∷ ps) (a ∷ args) = Enough ps args
 
+-- where a text takes arguments each has a directive
 abbrev pub IsFilled : Template → Type 0
 IsFilled (template.Plain q) = Unit {0}
 IsFilled (template.Part n dot a) = Unit {0}
@@ -105,10 +107,12 @@ abbrev times : Text → List (ℕ × Arg) → ℕ
 times q [] = 0
 times q ((comma, a) ∷ args) = cond (text_eq q a.name.text) (1 + times q args) (times q args)
 
+-- and among the names alone
 abbrev times_in : Text → List Name → ℕ
 times_in q [] = 0
 times_in q (n ∷ ns) = cond (text_eq q n.text) (1 + times_in q ns) (times_in q ns)
 
+-- P at each place of what the parameters of other names give
 abbrev pub Others : {A : Type 0} → (A → Type 0) → Text → List (Text × List A) → Type 0
 Others P q xs = (r : Text) → text_eq q r ≡ false → Each P (given xs r)
 
@@ -191,6 +195,7 @@ mutual
   types_of_long (Part name d args) = length-append (types d) _ ∙ (omega (arith, types_long d, types_of_long args) ∙ sym (length-append (fields d) _))
   types_of_long (Field name ty z args) = ap suc (types_of_long args)
 
+-- the field n is none of so many from m on
 abbrev pub Outside : (n m long : ℕ) → Type 0
 Outside n m long = (n < m) ⊎ (m + long ≤ n)
 

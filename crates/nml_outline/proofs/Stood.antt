@@ -22,10 +22,12 @@ abbrev pub NotAmong : Text → List Par → Type 0
 NotAmong x [] = Unit {0}
 NotAmong x (p ∷ ps) = (text_eq p.name.text x ≡ false) × NotAmong x ps
 
+-- no two parameters have one name
 abbrev pub AreApart : List Par → Type 0
 AreApart [] = Unit {0}
 AreApart (p ∷ ps) = NotAmong p.name.text ps × AreApart ps
 
+-- the text names each of them once
 abbrev pub EachOnce : Template → List Par → Type 0
 EachOnce text [] = Unit {0}
 EachOnce text (p ∷ ps) = (mentions p.name.text text ≡ 1) × EachOnce text ps
@@ -36,10 +38,11 @@ pub record IsLinear (pars : List Par) (text : Template) : Type 0 where
   pub once : EachOnce text pars
   pub filled : IsFilled text
 
+-- so is the image of each and-rule
 abbrev pub HasLinearImages : Table → Type 0
 HasLinearImages t = (name : Text) (rule : Rule) → declared t name ≡ Some (Declared.And rule) → IsLinear rule.pars rule.image
 
--- and of a syntax
+-- and its syntax
 abbrev pub HasLinearTexts : Table → Type 0
 HasLinearTexts t = (name : Text) (rule : Rule) → declared t name ≡ Some (Declared.And rule) → IsLinear rule.pars rule.syntax
 

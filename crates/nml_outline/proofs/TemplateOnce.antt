@@ -43,6 +43,7 @@ mutual
       let one_more : suc (length (fields_of args)) ≡ 1 + length (fields_of args) = omega arith in
       each_given (NoNumber n) (name, Number m ∷ []) (flats (m + 1) args) q (outside_other n m _ h, tt) (withouts args (m + 1) n q (outside_back n m 1 (length (fields_of args)) (subst (Outside n m) one_more h)))
 
+-- the number of the field stands once
 abbrev OnceFlat : ℕ → List Flat → Type 0
 OnceFlat n fs = OnceIn (NoNumber n) (Number n ∷ []) fs
 
@@ -95,6 +96,7 @@ template_without n (Letter c ∷ fs) letters h = template_without n fs (letters 
 template_without n (Seam ∷ fs) letters h = template_without n fs letters h.1
 template_without n (Number m ∷ fs) letters h = each_both (NotField n) (map Written (line_tokens letters)) (FieldAt m ∷ template_behind [] fs) (words_without n (line_tokens letters)) (h.0, template_without n fs [] h.1)
 
+-- the field stands once
 abbrev OnceToken : ℕ → List OutlineToken → Type 0
 OnceToken n ts = OnceIn (NotField n) (FieldAt n ∷ []) ts
 

@@ -51,6 +51,7 @@ number_step (AfterLetter c seam) ws z text ys e t is h =
     let s = split e.0 c (text ++ ys) r.0 r.1 (is.front ys) in
     ap (λ v. line_tokens (v ++ (text ++ ys))) e.1 ∙ (s ∙ (ap (λ v. line_tokens (e.0 ++ c ∷ []) ++ v) (is.token ys h) ∙ ap (λ v. line_tokens v ++ Number z ∷ line_tokens ys) (sym e.1)))
 
+-- each of these is read as one token
 abbrev pub AreTexts : List ℤ → Type 0
 AreTexts zs = (n : ℕ) → IsText (number_at zs n) (signed_decimal (number_at zs n))
 

@@ -1,5 +1,5 @@
 //! What the fixed bits and the tokens of shapes say of instructions.
-ghost use Rattle.std.specs.Prelude.{◌≡◌, ℕ, ◌<◌, ◌^◌, ℤ, List, Contains, Some, slice_get};
+ghost use Rattle.std.specs.Prelude.{◌≡◌, ℕ, ◌<◌, ◌^◌, ℤ, bit_and, bit_or, bit_xor, List, Contains, Some, None, slice_get};
 ghost use Rattle.nml_tree.specs.declared.tree.Desc.{Desc};
 ghost use Rattle.nml_tree.specs.Table.{table};
 ghost use Rattle.nml_tree.specs.Derivation.{Derivation, picks, fields};
@@ -16,7 +16,7 @@ ghost use Rattle.nml_shape.specs.First.{HaveWord, HaveTokens, IsFirstPair, HasNo
 /// numbers that the word has in the shape's fields; and the other way round.
 ///
 /// Where no two shapes have a word in common no two instructions have one image; else the first two shapes that have one tell the first
-/// two instructions with one image, by the least word of both.
+/// two instructions with one image, by the least word of both. That is what is fixed in one of them, where their fixed bits agree.
 pub fn words()
     ensures root { (d : Desc) (shapes : List Shape) (width : ℕ) (s : Shape) (w : ℕ) → IsFreeBelow 12 d → AreAllShapes d shapes → IsWordWidth (table d) width
         → Contains shapes s → HasWord s w → w < 2 ^ width
@@ -29,6 +29,9 @@ pub fn words()
         → IsFirstPair HaveWord shapes i j → slice_get shapes i ≡ Some a → slice_get shapes j ≡ Some b → IsLeastWord a b (Some w)
         → (x : Derivation) × (y : Derivation) × IsFirstImage (table d) x y × (picks x ≡ a.picks.items) × (picks y ≡ b.picks.items)
         × (fields x ≡ numbers_in w a.fields.items) × (fields y ≡ numbers_in w b.fields.items) × (word_of x ≡ w) }
+    ensures least { (d : Desc) (shapes : List Shape) (a b : Shape) → IsFreeBelow 12 d → AreAllShapes d shapes → Contains shapes a → Contains shapes b
+        → bit_and (bit_and (bit_xor a.value b.value) a.mask) b.mask ≡ 0 → IsLeastWord a b (Some (bit_or a.value b.value)) }
+    ensures none { (a b : Shape) → (bit_and (bit_and (bit_xor a.value b.value) a.mask) b.mask ≡ 0 → ⊥) → IsLeastWord a b None }
 {}
 
 /// A law: in a typed description each field of a shape stands in its tokens at one place; numbers in range for its fields are those of an
