@@ -8,12 +8,11 @@ use Rattle.nk_base.specs.Number.{IsTy, width_of, low_bits, InRange}
 use Rattle.nk_base.specs.declared.number.Ty.{Ty}
 use Rattle.nk_base.specs.declared.number.Ty.TheVariants as tys
 use Rattle.nml_tree.specs.declared.tree.Par.{Par}
-use Rattle.nml_tree.specs.Attribute.{number_of}
 use Rattle.nml_tree.specs.Table.{Text, Table}
 use Rattle.nml_tree.specs.Derivation.{Derivation, Arguments, Pick, Compose, NoMore, Part, Field, IsDerivation, Fill, picks, fields, fields_of}
 use Rattle.nml_tree.specs.Image.{image, word_of}
 use Rattle.nml_tree.specs.Value.{number_at}
-use Rattle.nml_tree.specs.Outline.{OutlineBit, Fixed, Free, is_fixed, fixed_bit, is_free, types, types_of, outline_bits, mask, fixed_value, low}
+use Rattle.nml_tree.specs.Outline.{OutlineBit, Fixed, Free, fixed_bit, is_free, types, types_of, outline_bits, mask, fixed_value, low}
 use Rattle.nml_outline.proofs.ExactBits.{with_fields, with_args}
 use Rattle.nml_outline.proofs.MaskBits.{Fits, fits_is}
 use Rattle.nml_outline.proofs.SameShape.{Agrees, agrees_front, agrees_back, agrees_at, own, one_shape, one_outline}
@@ -87,11 +86,6 @@ field_read t name d n ty lin h types_are at = read_at d n ty (stands d t name 0 
 
 pub one_low : (t : Table) (name : Text) (d e : Derivation) (n : ℕ) → IsDerivation t name d → IsDerivation t name e → picks d ≡ picks e → low n d ≡ low n e
 one_low t name d e n h k same = ap (λ w. prefix_len (λ b. not (is_free n b)) (reverse w)) (one_outline t name d e h k same)
-
-pub one_mask : (t : Table) (name : Text) (d e : Derivation) → IsDerivation t name d → IsDerivation t name e → picks d ≡ picks e → (mask d ≡ mask e) × (fixed_value d ≡ fixed_value e) × (length (image d) ≡ length (image e))
-one_mask t name d e h k same =
-    let o = one_outline t name d e h k same in
-    (ap (λ w. number_of (map is_fixed w)) o, ap (λ w. number_of (map fixed_bit w)) o, image_long d ∙ (ap length o ∙ sym (image_long e)))
 
 -- of the derivations of a shape each has its own word
 pub one_word : (t : Table) (name : Text) (d e : Derivation) → HasLinearImages t → IsDerivation t name d → IsDerivation t name e → HasTypes d → picks d ≡ picks e → word_of d ≡ word_of e → d ≡ e
