@@ -55,7 +55,7 @@ module _ (d : Desc) (free : IsFreeBelow 12 d) where
   untouched : (x : Derivation) → IsRoot (table d) x → has_touch x ≡ false
   untouched x h = no_touch d (λ k low. free k (omega (arith, low))) x (codes "instruction") h
 
-  tokens_with : (x : Derivation) → IsRoot (table d) x → tokens x ≡ map (with_numbers (fields x)) (template x)
+  pub tokens_with : (x : Derivation) → IsRoot (table d) x → tokens x ≡ map (with_numbers (fields x)) (template x)
   tokens_with x h = tokens_of (table d) (codes "instruction") x h (typed d free x h) (untouched x h)
 
   -- within a shape an instruction is known by its tokens

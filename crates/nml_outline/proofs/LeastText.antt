@@ -148,24 +148,42 @@ single_list (FieldAt m ∷ ts) h = (
   single_list ts (λ n i j e f. let s = h n (suc i) (suc j) e f in omega (arith, s)),
 )
 
+-- numbers in range with which two lists of tokens are one, the least in each field
+pub record LeastSame (ts us : List Ty) (xs ws : List OutlineToken) : Type 0 where
+  pub first : List ℤ
+  pub second : List ℤ
+  pub first_in : AreInRange ts first
+  pub second_in : AreInRange us second
+  pub same : map (with_numbers first) xs ≡ map (with_numbers second) ws
+  pub least : (ps qs : List ℤ) → AreInRange ts ps → AreInRange us qs → map (with_numbers ps) xs ≡ map (with_numbers qs) ws
+      → ((n : ℕ) → number_at first n ≤ℤ number_at ps n) × ((n : ℕ) → number_at second n ≤ℤ number_at qs n)
+
+-- each field stands at one place of the tokens
+abbrev pub StandOnce : List OutlineToken → Type 0
+StandOnce ts = (n i j : ℕ) → slice_get ts i ≡ Some (FieldAt n) → slice_get ts j ≡ Some (FieldAt n) → i ≡ j
+
+-- two lists of tokens that some numbers make one, with the least numbers
+pub least_lists : (ts us : List Ty) (xs ws : List OutlineToken) (zs ys : List ℤ) → StandOnce xs → StandOnce ws → AreInRange ts zs → AreInRange us ys
+    → map (with_numbers zs) xs ≡ map (with_numbers ys) ws → LeastSame ts us xs ws
+least_lists ts us xs ws zs ys once_a once_b in_a in_b e =
+    let same = same_from zs ys (number_at zs) (number_at ys) xs ws (λ n. refl) (λ n. refl) e in
+    let can = can_all ts us (number_at zs) (number_at ys) xs ws (range_of ts zs in_a) (range_of us ys in_b) same in
+    let c = choose (RangeAt ts) (RangeAt us) (lowest_at ts) (lowest_at us) (at_in ts) (at_in us) (at_least ts) (at_least us) xs ws (single_list xs once_a) (single_list ws once_b) can in
+    let first = listed_at ts c.first c.first_in in
+    let second = listed_at us c.second c.second_in in
+    record {
+      first = listed ts c.first;
+      second = listed us c.second;
+      first_in = listed_in ts c.first c.first_in;
+      second_in = listed_in us c.second c.second_in;
+      same = from_same (listed ts c.first) (listed us c.second) c.first c.second xs ws first second c.same;
+      least = λ ps qs p q k.
+          let l = c.least (number_at ps) (number_at qs) (range_of ts ps p) (range_of us qs q) (same_from ps qs (number_at ps) (number_at qs) xs ws (λ n. refl) (λ n. refl) k) in
+          (λ n. subst (λ z. z ≤ℤ number_at ps n) (sym (first n)) (l.0 n), λ n. subst (λ z. z ≤ℤ number_at qs n) (sym (second n)) (l.1 n));
+    }
+
 -- the least numbers with which both have one list of tokens
 pub least_pair : (a b : Shape) (zs ys : List ℤ) → IsSingle a → IsSingle b → AreSame a b zs ys → (us : List ℤ) × (vs : List ℤ) × AreLeastSame a b us vs
 least_pair a b zs ys single_a single_b h =
-    let ts = types_of a.fields.items in
-    let us = types_of b.fields.items in
-    let xs = map token_of a.template.items in
-    let ws = map token_of b.template.items in
-    let same = same_from zs ys (number_at zs) (number_at ys) xs ws (λ n. refl) (λ n. refl) h.same in
-    let can = can_all ts us (number_at zs) (number_at ys) xs ws (range_of ts zs h.first) (range_of us ys h.second) same in
-    let c = choose (RangeAt ts) (RangeAt us) (lowest_at ts) (lowest_at us) (at_in ts) (at_in us) (at_least ts) (at_least us) xs ws (single_list xs single_a.once) (single_list ws single_b.once) can in
-    let first = listed_at ts c.first c.first_in in
-    let second = listed_at us c.second c.second_in in (
-      listed ts c.first,
-      listed us c.second,
-      record {
-        are = record { first = listed_in ts c.first c.first_in; second = listed_in us c.second c.second_in; same = from_same (listed ts c.first) (listed us c.second) c.first c.second xs ws first second c.same };
-        least = λ ps qs k.
-            let l = c.least (number_at ps) (number_at qs) (range_of ts ps k.first) (range_of us qs k.second) (same_from ps qs (number_at ps) (number_at qs) xs ws (λ n. refl) (λ n. refl) k.same) in
-            (λ n. subst (λ z. z ≤ℤ number_at ps n) (sym (first n)) (l.0 n), λ n. subst (λ z. z ≤ℤ number_at qs n) (sym (second n)) (l.1 n));
-      },
-    )
+    let l = least_lists (types_of a.fields.items) (types_of b.fields.items) (map token_of a.template.items) (map token_of b.template.items) zs ys single_a.once single_b.once h.first h.second h.same in
+    (l.first, l.second, record { are = record { first = l.first_in; second = l.second_in; same = l.same }; least = λ ps qs k. l.least ps qs k.first k.second k.same })

@@ -1,3 +1,7 @@
 pub mod FirstPair
 pub mod Alike
+pub mod Known
+pub mod RootRule
+pub mod SomeDerivation
+pub mod Summaries
 pub mod TreeFaults
