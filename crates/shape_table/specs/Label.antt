@@ -87,7 +87,7 @@ weight (piece.Field n) = None
 
 -- that of this token of the shape
 abbrev pub weight_at : ℕ → Shape → Option ℕ
-weight_at n s = option_and_then (slice_get s.template.items n) weight
+weight_at n s = option_and_then weight (slice_get s.template.items n)
 
 -- all bits, or none
 abbrev pub bits_if : Option ℕ → ℕ
