@@ -4,3 +4,6 @@ pub mod Latest
 pub mod Spans
 pub mod Tokens
 pub mod Places
+pub mod Have
+pub mod Pairs
+pub mod Labels

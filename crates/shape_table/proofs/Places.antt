@@ -12,7 +12,7 @@ use Rattle.shape_table.specs.Meet.{pieces_meet, all_meet}
 pub front_at : {A : Type 0} (xs : List A) (i : ℕ) (x : A) → slice_get xs i ≡ Some x → drop i xs ≡ x ∷ drop (i + 1) xs
 front_at xs i x at = drop_more xs i x (slice_get_within xs i x at) ∙ ap (λ y. y ∷ drop (i + 1) xs) (get_or_from_slice_get xs i x x at)
 
-same_length : (fs gs : List FieldAt) (ps qs : List Piece) → all_meet fs gs ps qs ≡ true → length ps ≡ length qs
+pub same_length : (fs gs : List FieldAt) (ps qs : List Piece) → all_meet fs gs ps qs ≡ true → length ps ≡ length qs
 same_length fs gs [] [] is = refl
 same_length fs gs [] (q ∷ qs) is = absurd cc
 same_length fs gs (p ∷ ps) [] is = absurd cc

@@ -21,11 +21,12 @@ pub fn tokens_meet(a: &Shape, b: &Shape) -> bool
     requires b { HasTypes b.now }
     ensures { result ≡ spec.tokens_meet a.now b.now }
 {
-    if a.template.len() != b.template.len() {
+    let (ps, qs) = (a.template.as_slice(), b.template.as_slice());
+    if ps.len() != qs.len() {
         return false;
     }
-    for i in 0..a.template.len() {
-        if !pieces_meet(a, b, &a.template[i], &b.template[i]) {
+    for i in 0..ps.len() {
+        if !pieces_meet(a, b, &ps[i], &qs[i]) {
             return false;
         }
     }
