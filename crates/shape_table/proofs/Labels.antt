@@ -1,10 +1,9 @@
 -- Shapes that meet have one label.
-use Rattle.std.proofs.Common.{ℕ, ◌≡◌, ◌≤◌, ◌<◌, ◌==◌, refl, sym, ◌∙◌, ap, arith, ℤ, List, [], ◌∷◌, ◌++◌, ◌+◌, length, Bool, inl, inr, true, false, bit_and, Option, Some, None}
+use Rattle.std.proofs.Common.{ℕ, ◌≡◌, ◌<◌, ◌==◌, refl, sym, ◌∙◌, ap, arith, List, [], ◌∷◌, ◌++◌, ◌+◌, length, Bool, inl, inr, true, false, bit_and, Option, Some, None}
 use Rattle.std.specs.Prelude.{slice_index_or, slice_get, option_and_then, unwrap_or, unsigned_abs, if◌then◌else◌}
 use Rattle.std.proofs.lemmas.Bool.{and_parts, eqb-true, eqb-false, cases_lt}
-use Rattle.std.proofs.lemmas.Int.{ints}
 use Rattle.std.proofs.lemmas.Option.{none-some, same_Some, slice_get_within}
-use Rattle.std.proofs.lemmas.List.{get_or_append_left, get_or-append-add}
+use Rattle.std.proofs.lemmas.List.{get_or_append_left}
 use Rattle.std.proofs.Math.Seq.{get_or-append_seam}
 use Rattle.std.specs.Int.Bits.{and_zero_r}
 use Rattle.nml_tree.proofs.SameText.{same_text}
@@ -17,7 +16,7 @@ use Rattle.shape_table.specs.declared.common.Common.TheVariants as common
 use Rattle.shape_table.specs.declared.common.Part.{Part}
 use Rattle.shape_table.specs.declared.common.Part.TheVariants as part
 use Rattle.shape_table.specs.Meet.{pieces_meet}
-use Rattle.shape_table.specs.Label.{meets, meets_at, AreLabels, AreCommon, mixed, mixed_all, weight, weight_at, bits_if, whole, fixed_in, told, first_label}
+use Rattle.shape_table.specs.Label.{meets, AreLabels, AreCommon, mixed, mixed_all, weight, weight_at, bits_if, whole, fixed_in, told, first_label}
 use Rattle.shape_table.proofs.Bitwise.{one_label}
 use Rattle.shape_table.proofs.Spans.{in_order, both_ways}
 use Rattle.shape_table.proofs.Places.{same_length, meet_at_place}

@@ -1,14 +1,14 @@
 -- Numbers of spans, and lists of numbers in range of their fields.
-use Rattle.std.proofs.Common.{ℕ, zero, suc, ◌≡◌, ◌≤◌, ◌<◌, ◌^◌, ◌-◌, refl, sym, ◌∙◌, ap, subst, arith, ℤ, pos, List, [], ◌∷◌, length, map, get_or, Bool, true, false, Option, Some, None, inl, inr}
-use Rattle.std.specs.Prelude.{◌≢◌, ◌≤ℤ◌, int_lt, int_le, if◌then◌else◌, slice_get, slice_set, unwrap_or, option_map}
+use Rattle.std.proofs.Common.{ℕ, zero, suc, ◌≡◌, ◌<◌, ◌-◌, refl, sym, ◌∙◌, ap, subst, arith, ℤ, pos, List, [], ◌∷◌, length, Bool, true, false, Option, Some, None}
+use Rattle.std.specs.Prelude.{◌≢◌, ◌≤ℤ◌, int_lt, int_le, if◌then◌else◌, slice_get, slice_set, option_map}
 use Rattle.std.proofs.lemmas.Int.{ints}
-use Rattle.std.proofs.lemmas.List.{get_or-set_same, get_or-set_other, length-set}
+use Rattle.std.proofs.lemmas.List.{get_or-set_same, get_or-set_other}
 use Rattle.std.proofs.lemmas.Nat.{pow_pos}
-use Rattle.std.proofs.lemmas.Option.{none-some, same_Some, slice_get_within, unwrap_or-slice_get}
-use Rattle.nk_base.specs.Number.{IsTy, InRange}
+use Rattle.std.proofs.lemmas.Option.{none-some, same_Some, unwrap_or-slice_get}
+use Rattle.nk_base.specs.Number.{InRange}
 use Rattle.nk_base.specs.declared.number.Ty.{Ty}
 use Rattle.nk_base.specs.declared.number.Ty.TheVariants as tys
-use Rattle.nml_tree.specs.LineToken.{LineToken, Number}
+use Rattle.nml_tree.specs.LineToken.{Number}
 use Rattle.nml_tree.specs.Outline.{AreInRange, with_numbers}
 use Rattle.nml_tree.specs.Value.{number_at}
 use Rattle.nml_shape.specs.declared.shape.FieldAt.{FieldAt}

@@ -1,10 +1,10 @@
 -- Shapes that meet have a list of tokens in common, and which numbers of it are least.
-use Rattle.std.proofs.Common.{ℕ, zero, suc, ◌≡◌, ◌≤◌, ◌<◌, refl, sym, ◌∙◌, ap, subst, arith, ℤ, pos, List, [], ◌∷◌, length, map, Bool, true, false, Option, Some, None, inl, inr, Contains}
-use Rattle.std.specs.Prelude.{◌≢◌, ◌≤ℤ◌, int_le, slice_get, slice_set, option_map, ◌&&◌}
+use Rattle.std.proofs.Common.{ℕ, zero, suc, ◌≡◌, ◌<◌, refl, sym, ◌∙◌, ap, subst, arith, ℤ, List, [], ◌∷◌, length, map, true, false, Option, Some, None, inl, inr, Contains}
+use Rattle.std.specs.Prelude.{◌≤ℤ◌, int_le, slice_get, option_map}
 use Rattle.std.proofs.lemmas.Int.{ints}
 use Rattle.std.proofs.lemmas.Bool.{and_parts, and_from, cases_eq, eqb-true, eq-eqb}
 use Rattle.std.proofs.lemmas.List.{length-set}
-use Rattle.std.proofs.lemmas.Option.{none-some, same_Some, slice_get_within, slice_get-get_or}
+use Rattle.std.proofs.lemmas.Option.{slice_get_within}
 use Rattle.nml_tree.specs.LineToken as line_token
 use Rattle.nml_tree.specs.LineToken.{LineToken}
 use Rattle.nml_tree.specs.Outline as outline
@@ -16,12 +16,12 @@ use Rattle.nml_shape.specs.declared.shape.Piece.{Piece}
 use Rattle.nml_shape.specs.declared.shape.Piece.TheVariants as piece
 use Rattle.nml_shape.specs.declared.shape.Shape.{Shape}
 use Rattle.nml_shape.specs.Shown.{token_of, types_of}
-use Rattle.nml_shape.specs.Common.{AreAtMost, AreSame, AreLeastSame, HaveNoTokens, IsSingle}
+use Rattle.nml_shape.specs.Common.{AreAtMost, AreLeastSame, HaveNoTokens, IsSingle}
 use Rattle.nml_shape.specs.First.{HaveTokens}
-use Rattle.shape_table.specs.Meet.{AreTypes, HasTypes, range, span, same_written, by_spans, pieces_meet, all_meet, tokens_meet}
+use Rattle.shape_table.specs.Meet.{HasTypes, range, span, same_written, by_spans, pieces_meet, all_meet, tokens_meet}
 use Rattle.shape_table.specs.Least.{larger, least_by, least, placed, leasts, lows, least_numbers}
 use Rattle.shape_table.specs.declared.token.Span.{Span}
-use Rattle.shape_table.proofs.Spans.{IsNumber, is_number, larger_is, in_order, ordered, both_ways, range_low, range_high, in_range, range_some, number_set, number_other, range_length, range_at, range_set, lows_range}
+use Rattle.shape_table.proofs.Spans.{is_number, larger_is, in_order, ordered, both_ways, range_low, in_range, range_some, number_set, number_other, range_length, range_at, range_set, lows_range}
 
 -- each field stands once
 abbrev Once : List Piece → Type 0
@@ -289,18 +289,18 @@ module _ (a b : Shape) (s : IsSingle a) (r : IsSingle b) (at : HasTypes a) (bt :
         let low = lows_range fs at in let lower = lows_range gs bt in
         let first = leasts_range fs gs ps qs (lows fs) low is in let second = leasts_range gs fs qs ps (lows gs) lower back in
         record {
-      are = record {
-        first = first;
-        second = second;
-        same = filled_agreed fs gs ps qs (lows fs) s.once (subst (λ n. Known n ps) (sym (range_length fs (lows fs) low)) s.known) is
-            ∙ agreed_turned fs gs ps qs is
-            ∙ sym (filled_agreed gs fs qs ps (lows gs) r.once (subst (λ n. Known n qs) (sym (range_length gs (lows gs) lower)) r.known) back);
-      };
-      least = λ us vs h. (
-        leasts_below fs gs us vs ps qs (lows fs) h.first h.second low is h.same (lows_below fs us h.first),
-        leasts_below gs fs vs us qs ps (lows gs) h.second h.first lower back (sym h.same) (lows_below gs vs h.second)
-      );
-    }
+          are = record {
+            first = first;
+            second = second;
+            same = filled_agreed fs gs ps qs (lows fs) s.once (subst (λ n. Known n ps) (sym (range_length fs (lows fs) low)) s.known) is
+                ∙ agreed_turned fs gs ps qs is
+                ∙ sym (filled_agreed gs fs qs ps (lows gs) r.once (subst (λ n. Known n qs) (sym (range_length gs (lows gs) lower)) r.known) back);
+          };
+          least = λ us vs h. (
+            leasts_below fs gs us vs ps qs (lows fs) h.first h.second low is h.same (lows_below fs us h.first),
+            leasts_below gs fs vs us qs ps (lows gs) h.second h.first lower back (sym h.same) (lows_below gs vs h.second),
+          );
+        }
 
     pub tokens_have : HaveTokens a b
     tokens_have = (least_numbers a b, least_numbers b a, least_same.are)

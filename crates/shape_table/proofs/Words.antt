@@ -1,5 +1,5 @@
 -- Shapes that meet have a word in common, and the least is the bits of both values.
-use Rattle.std.proofs.Common.{ℕ, ◌≡◌, ◌≤◌, refl, sym, ◌∙◌, ap, bit_or, bit_and, true, false}
+use Rattle.std.proofs.Common.{ℕ, ◌≡◌, sym, ◌∙◌, ap, bit_or, bit_and, true, false}
 use Rattle.std.specs.Prelude.{Some}
 use Rattle.std.proofs.lemmas.Bool.{eqb-true, eq-eqb, and_parts, and_from}
 use Rattle.nml_shape.specs.declared.shape.Shape.{Shape}

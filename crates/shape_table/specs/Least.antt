@@ -1,5 +1,5 @@
 -- The least numbers with which two shapes have one list of tokens, place by place.
-use Rattle.std.specs.Prelude.{ℤ, int_lt, if◌then◌else◌, List, [], ◌∷◌, map, Option, Some, None, slice_set}
+use Rattle.std.specs.Prelude.{ℤ, int_lt, if◌then◌else◌, List, ◌∷◌, map, Option, Some, None, slice_set}
 use Rattle.nml_shape.specs.declared.shape.FieldAt.{FieldAt}
 use Rattle.nml_shape.specs.declared.shape.Piece.{Piece}
 use Rattle.nml_shape.specs.declared.shape.Piece.TheVariants as piece

@@ -1,5 +1,5 @@
 -- Whether two shapes have a word or a list of tokens in common, by looking at the two alone.
-use Rattle.std.specs.Prelude.{ℕ, ◌≡◌, ◌==◌, ◌&&◌, ◌^◌, ◌-◌, Bool, false, true, bit_and, bit_xor, ℤ, pos, neg_ℤ, ◌-ℤ◌, int_le, int_lt, if◌then◌else◌, List, [], ◌∷◌, Option, Some, None, option_map, slice_get, slice_set}
+use Rattle.std.specs.Prelude.{ℕ, ◌≡◌, ◌==◌, ◌&&◌, ◌^◌, ◌-◌, Bool, false, true, bit_and, bit_xor, pos, neg_ℤ, ◌-ℤ◌, int_le, List, [], ◌∷◌, Option, Some, None, option_map, slice_get}
 use Rattle.nk_base.specs.Number.{IsTy}
 use Rattle.nk_base.specs.Text.{text_eq}
 use Rattle.nk_base.specs.declared.number.Ty.{Ty}

@@ -17,10 +17,7 @@ use std::alloc::Global;
 ///
 /// Not every two are compared: only those with the same values of the bits that are fixed in all that were alike so far. The one error is
 /// want of memory. The rule is this project's own.
-pub fn first_image_pair(
-    alloc: Global,
-    shapes: &[Shape],
-) -> Result<Option<(usize, usize)>, Memory>
+pub fn first_image_pair(alloc: Global, shapes: &[Shape]) -> Result<Option<(usize, usize)>, Memory>
     ensures { IfOk result (λ found. MatchOption found (HasNoPair HaveWord shapes.now) (λ p. IsFirstPair HaveWord shapes.now p.0 p.1)) }
 {
     let once = labels(alloc, Common::Image, shapes)?;
@@ -34,10 +31,7 @@ pub fn first_image_pair(
 ///
 /// Not every two are compared: only those with as many tokens, and the same at each place where none that were alike so far has a field.
 /// The one error is want of memory. The rule is this project's own.
-pub fn first_syntax_pair(
-    alloc: Global,
-    shapes: &[Shape],
-) -> Result<Option<(usize, usize)>, Memory>
+pub fn first_syntax_pair(alloc: Global, shapes: &[Shape]) -> Result<Option<(usize, usize)>, Memory>
     requires single { Each IsSingle shapes.now }
     requires types { Each HasTypes shapes.now }
     ensures { IfOk result (λ found. MatchOption found (HasNoPair HaveTokens shapes.now) (λ p. IsFirstPair HaveTokens shapes.now p.0 p.1)) }

@@ -1,8 +1,7 @@
-use Rattle.std.proofs.Common.{ap, refl, length, bit_and, nat_cmp}
+use Rattle.std.proofs.Common.{refl, length, nat_cmp}
 use Rattle.std.proofs.lemmas.Option.{slice_get_read}
 use Rattle.std.specs.BTreeMap.{get}
-use Rattle.std.specs.Prelude.{unwrap_or}
-use Rattle.shape_table.specs.Label.{all_bits, fixed_in}
+use Rattle.shape_table.specs.Label.{all_bits}
 use Rattle.shape_table.proofs.Pairs.{common_step}
 use Rattle.shape_table.proofs.label.commons.Goals as goal
 
