@@ -1,0 +1,9 @@
+pub mod Bitwise
+pub mod Words
+pub mod Latest
+pub mod Spans
+pub mod Tokens
+pub mod Places
+pub mod Have
+pub mod Pairs
+pub mod Labels
