@@ -16,8 +16,9 @@ use Rattle.nml_tree.specs.Shapes.{AreShapes, ShapesFault, AreCounts}
 use Rattle.nml_tree.specs.Same.{SameImage, SameSyntax, IsFirstImage, IsFirstSyntax, tokens, tokens_text}
 use Rattle.nml_tree.specs.Refused.{Holds, By_name, By_cycle, By_type, By_width, By_mention, By_word, By_edge, By_root, By_shapes, By_image, By_syntax, IsFreeBelow, IsTyped, IsChecked, IsImageOf, IsRefused}
 use Rattle.nml_types.specs.TypingFault.{IsTypingFault}
-use Rattle.nml_types.proofs.Refusals.{next_free, typed_if_none, none_typed}
+use Rattle.nml_types.proofs.Refusals.{typed_if_none, none_typed}
 use Rattle.nml_types.proofs.Refusals as typing
+use Rattle.nml_types.proofs.Late.{free_shapes, free_images}
 use Rattle.nml_shape.proofs.OneList.{one_counts}
 use Rattle.nml_refusals.specs.TreeFault.{IsTreeFault}
 use Rattle.nml_refusals.proofs.Alike.{AreKnown, one_first_image, one_first_syntax, no_image, no_tokens}
@@ -148,41 +149,6 @@ pub none_checked : (d : Desc) (f : DescFault) → IsChecked d → IsTreeFault d 
 none_checked d f c h = none_kind d f c (kind d f h)
 
 -- ---- some fault
-
--- what holds from N12 on
-data IsLate (d : Desc) (n : ℕ) : Type 0 where
-  Shapes : (c m s : ℕ) → n ≡ 12 → ShapesFault (table d) c m s → IsLate d n
-  Image : (a b : Derivation) → n ≡ 13 → SameImage (table d) a b → IsLate d n
-  Syntax : (a b : Derivation) → n ≡ 14 → SameSyntax (table d) a b → IsLate d n
-
-late : (d : Desc) (n : ℕ) → 12 ≤ n → Holds d n → IsLate d n
-late d n le (By_name at h) = absurd (omega (arith, le))
-late d n le (By_cycle rule h) = absurd (omega (arith, le))
-late d n le (By_type at h) = absurd (omega (arith, le))
-late d n le (By_width at h) = absurd (omega (arith, le))
-late d n le (By_mention rule p h) = absurd (omega (arith, le))
-late d n le (By_word rule h) = absurd (omega (arith, le))
-late d n le (By_edge rule h) = absurd (omega (arith, le))
-late d n le (By_root what h) = absurd (omega (arith, le))
-late d n le (By_shapes c m s h) = Shapes c m s refl h
-late d n le (By_image a b h) = Image a b refl h
-late d n le (By_syntax a b h) = Syntax a b refl h
-
-pub free_shapes : (d : Desc) → IsTyped d → ((c n s : ℕ) → ShapesFault (table d) c n s → ⊥) → IsFreeBelow 13 d
-free_shapes d typed none = next_free d 12 typed (λ h. by (late d 12 (omega arith) h))
-  where
-    by : IsLate d 12 → ⊥
-    by (Shapes c m s e h) = none c m s h
-    by (Image a b e h) = omega (arith, e)
-    by (Syntax a b e h) = omega (arith, e)
-
-pub free_images : (d : Desc) → IsFreeBelow 13 d → ((a b : Derivation) → SameImage (table d) a b → ⊥) → IsFreeBelow 14 d
-free_images d free none = next_free d 13 free (λ h. by (late d 13 (omega arith) h))
-  where
-    by : IsLate d 13 → ⊥
-    by (Shapes c m s e h) = omega (arith, e)
-    by (Image a b e h) = none a b h
-    by (Syntax a b e h) = omega (arith, e)
 
 -- what an accepted description needs to be shown to be one: shapes, words of 64 bits at most, what is known of derivations
 pub record AreTold (d : Desc) : Type 0 where

@@ -1,2 +1,4 @@
-pub mod Refusals
 pub mod Free
+pub mod Refusals
+pub mod Late
+pub mod Checks

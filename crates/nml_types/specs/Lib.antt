@@ -1,2 +1,3 @@
 pub mod TypingFault
 pub mod Summary
+pub mod Pairs

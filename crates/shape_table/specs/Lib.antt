@@ -1,3 +1,4 @@
 pub mod Meet
 pub mod Least
 pub mod Label
+pub mod Shapes

@@ -6,6 +6,7 @@ mod agreed;
 mod common;
 mod image;
 mod label;
+mod listed;
 mod numbers;
 mod pair;
 mod same;
@@ -14,7 +15,8 @@ mod token;
 
 pub use agreed::Agreement;
 pub use image::overlap_image;
+pub use listed::{ShapeFault, shapes};
 pub use numbers::numbers_of;
 pub use pair::{first_image_pair, first_syntax_pair};
 pub use same::agreement;
-pub use syntax::overlap_syntax;
+pub use syntax::{overlap_syntax, tokens_text};

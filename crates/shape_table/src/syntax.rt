@@ -34,8 +34,10 @@ pub fn overlap_syntax(alloc: Global, a: &Shape, b: &Shape) -> Result<Option<Text
     }
 }
 
-/// The tokens of the shape with these numbers in its fields, with one blank between two.
-fn tokens_text(alloc: Global, shape: &Shape, numbers: &[i128]) -> Result<Text, Memory>
+/// The tokens of the shape with these numbers in its fields, with one blank between two; a field beyond the numbers has 0.
+///
+/// The one error is want of memory. The rule is this project's own.
+pub fn tokens_text(alloc: Global, shape: &Shape, numbers: &[i128]) -> Result<Text, Memory>
     ensures { IfOk result (λ text. text ≡ spec.tokens_text (filled shape.now numbers.now)) }
 {
     let mut text = Text::new(alloc);

