@@ -78,16 +78,28 @@ abbrev pub mixed_all : ℕ → List ℕ → ℕ
 mixed_all label [] = label
 mixed_all label (c ∷ cs) = mixed_all (mixed label c) cs
 
--- a number for a token that is written; none for a field
-abbrev pub weight : Piece → Option ℕ
-weight (piece.Word w) = Some (mixed_all 0 w)
-weight (piece.Number z) = Some (unsigned_abs z)
-weight (piece.Mark c) = Some c
-weight (piece.Field n) = None
+-- the number that the token is, without its sign
+abbrev pub size : Piece → Option ℕ
+size (piece.Word w) = None
+size (piece.Number z) = Some (unsigned_abs z)
+size (piece.Mark c) = None
+size (piece.Field n) = None
 
 -- that of this token of the shape
-abbrev pub weight_at : ℕ → Shape → Option ℕ
-weight_at n s = option_and_then weight (slice_get s.template.items n)
+abbrev pub size_at : ℕ → Shape → Option ℕ
+size_at n s = option_and_then size (slice_get s.template.items n)
+
+-- a number for a word or a mark; one and the same for any number
+abbrev pub class : Piece → ℕ
+class (piece.Word w) = mixed_all 0 w
+class (piece.Number z) = 256
+class (piece.Mark c) = c
+class (piece.Field n) = 256
+
+-- a label from these of all tokens
+abbrev pub classed : ℕ → List Piece → ℕ
+classed label [] = label
+classed label (p ∷ ps) = classed (mixed label (class p)) ps
 
 -- all bits, or none
 abbrev pub bits_if : Option ℕ → ℕ
@@ -102,17 +114,17 @@ whole (part.Place n) = common.Syntax
 -- which bits of the part are fixed in the shape: of a place all or none
 abbrev pub fixed_in : Part → Shape → ℕ
 fixed_in part.Bits s = s.mask
-fixed_in (part.Place n) s = bits_if (weight_at n s)
+fixed_in (part.Place n) s = bits_if (size_at n s)
 
 -- a label from what is fixed in all shapes of a label
 abbrev pub told : Part → Shape → (fixed label : ℕ) → ℕ
 told part.Bits s fixed label = bit_and s.value fixed
-told (part.Place n) s fixed label = if fixed == 0 then label else mixed label (unwrap_or (weight_at n s) 0)
+told (part.Place n) s fixed label = if fixed == 0 then label else mixed label (unwrap_or (size_at n s) 0)
 
--- a label from the shape alone: the number of its tokens, or none
+-- a label from the shape alone
 abbrev pub first_label : Common → Shape → ℕ
 first_label common.Image s = 0
-first_label common.Syntax s = length s.template.items
+first_label common.Syntax s = classed (length s.template.items) s.template.items
 
 -- of the first n shapes: what a label has fixed is fixed in each of its shapes
 pub record AreCommon (p : Part) (shapes : List Shape) (labels : List ℕ) (fixed : ℕ → ℕ) (n : ℕ) : Type 0 where

@@ -15,7 +15,7 @@ pub enum Common {
     Syntax,
 }
 
-/// A part of it: the fixed bits, or the token at a place.
+/// A part of it: the fixed bits, or the number at a place.
 #[derive(Clone, Copy)]
 pub enum Part {
     Bits,
@@ -35,13 +35,13 @@ impl Common {
         }
     }
 
-    /// A label that both of two shapes with something in common have: the number of tokens, or 0.
+    /// A label that both of two shapes with something in common have, from the words and marks of the tokens; 0 for words of bits.
     pub fn first_label(self, shape: &Shape) -> u128
         ensures { result ≡ spec.first_label self shape.now }
     {
         match self {
             Common::Image => 0,
-            Common::Syntax => shape.template.len() as u128,
+            Common::Syntax => classed(shape.template.as_slice()),
         }
     }
 }
@@ -53,7 +53,7 @@ impl Part {
     {
         match self {
             Part::Bits => shape.mask,
-            Part::Place(n) => match weight_at(shape, n) {
+            Part::Place(n) => match size_at(shape, n) {
                 None => 0,
                 Some(_) => u128::MAX,
             },
@@ -70,32 +70,55 @@ impl Part {
                 if fixed == 0 {
                     label
                 } else {
-                    mixed(label, weight_at(shape, n).unwrap_or(0))
+                    mixed(label, size_at(shape, n).unwrap_or(0))
                 }
             }
         }
     }
 }
 
-/// A number for this token of the shape, if it is written and no field.
-fn weight_at(shape: &Shape, n: usize) -> Option<u128>
-    ensures { result ≡ spec.weight_at n shape.now }
+/// The number that is written at this place, without its sign.
+fn size_at(shape: &Shape, n: usize) -> Option<u128>
+    ensures { result ≡ spec.size_at n shape.now }
 {
     match shape.template.get(n) {
         None => None,
-        Some(piece) => weight(piece),
+        Some(piece) => size(piece),
     }
 }
 
-/// A number for a token that is written.
-fn weight(piece: &Piece) -> Option<u128>
-    ensures { result ≡ spec.weight piece.now }
+/// The number that the token is, without its sign.
+fn size(piece: &Piece) -> Option<u128>
+    ensures { result ≡ spec.size piece.now }
 {
     match piece {
-        Piece::Word(word) => Some(mixed_all(word.as_bytes())),
+        Piece::Word(_) => None,
         Piece::Number(z) => Some(z.unsigned_abs()),
-        Piece::Mark(c) => Some(u128::from(*c)),
+        Piece::Mark(_) => None,
         Piece::Field(_) => None,
+    }
+}
+
+/// A label from the words and marks of these tokens, and the places where numbers stand.
+fn classed(pieces: &[Piece]) -> u128
+    ensures { result ≡ spec.classed (length pieces.now) pieces.now }
+{
+    let mut label = pieces.len() as u128;
+    for i in 0..pieces.len() {
+        label = mixed(label, class(&pieces[i]));
+    }
+    label
+}
+
+/// A number for a word or a mark; one and the same for any number.
+fn class(piece: &Piece) -> u128
+    ensures { result ≡ spec.class piece.now }
+{
+    match piece {
+        Piece::Word(word) => mixed_all(word.as_bytes()),
+        Piece::Number(_) => 256,
+        Piece::Mark(c) => u128::from(*c),
+        Piece::Field(_) => 256,
     }
 }
 

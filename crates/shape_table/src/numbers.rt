@@ -11,8 +11,7 @@ use std::alloc::Global;
 
 /// The numbers that the word has in these fields, in their order.
 ///
-/// A field has no more bits than stand in the word; bits past its highest are 0. The one error is want of memory. The rule is this
-/// project's own.
+/// Past the highest bit of the word a field has zeros. The one error is want of memory. The rule is this project's own.
 pub fn numbers_of(alloc: Global, word: u128, fields: &[FieldAt]) -> Result<Vec<i128>, Memory>
     requires { AreTypes fields.now }
     ensures { IfOk result (λ numbers. numbers.items ≡ spec.numbers_in word fields.now) }
@@ -40,7 +39,7 @@ fn word_from(word: u128, low: u32) -> u128
     if low < 128 { word >> low } else { 0 }
 }
 
-/// The lowest bits of the word, 1 to 64 of them.
+/// The lowest bits of the word, 64 at most.
 fn low_bits(word: u128, width: u32) -> u64
     requires { width ≤ 64 }
     ensures { result ≡ word % 2 ^ width }

@@ -29,8 +29,8 @@ pub fn first_image_pair(alloc: Global, shapes: &[Shape]) -> Result<Option<(usize
 
 /// Of all two shapes with a list of tokens in common the two with the least first number, and of these with the least second one.
 ///
-/// Not every two are compared: only those with as many tokens, and the same at each place where none that were alike so far has a field.
-/// The one error is want of memory. The rule is this project's own.
+/// Not every two are compared: only those with the same words and marks and with numbers at the same places, and with the same number at
+/// each place where all that were alike so far have one that is written. The one error is want of memory. The rule is this project's own.
 pub fn first_syntax_pair(alloc: Global, shapes: &[Shape]) -> Result<Option<(usize, usize)>, Memory>
     requires single { Each IsSingle shapes.now }
     requires types { Each HasTypes shapes.now }
@@ -43,7 +43,7 @@ pub fn first_syntax_pair(alloc: Global, shapes: &[Shape]) -> Result<Option<(usiz
     first_pair(alloc, Common::Syntax, shapes, labels.as_slice())
 }
 
-/// At how many places tokens are looked at before shapes are compared: more would tell few apart.
+/// At how many places numbers are looked at before shapes are compared: more would tell few apart.
 fn places(shapes: &[Shape]) -> usize {
     let mut longest = 0;
     for shape in shapes {
