@@ -109,7 +109,7 @@ fixed_fits (Free n ∷ os) = fixed_fits os
 pub value_within : (d : Derivation) → bit_and (fixed_value d) (mask d) ≡ fixed_value d
 value_within d = fits_is (outline_bits 0 d) (map fixed_bit (outline_bits 0 d)) (fixed_fits (outline_bits 0 d))
 
-value_below : (d : Derivation) → fixed_value d < 2 ^ length (image d)
+pub value_below : (d : Derivation) → fixed_value d < 2 ^ length (image d)
 value_below d =
     subst (λ n. fixed_value d < 2 ^ n) (length-map (outline_bits 0 d) fixed_bit ∙ sym (image_long d)) (number_below (map fixed_bit (outline_bits 0 d)))
 

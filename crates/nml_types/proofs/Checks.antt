@@ -1,5 +1,6 @@
 -- What the first two shapes with something in common say of a description.
-use Rattle.std.proofs.Common.{ℕ, zero, suc, ◌≤◌, ◌<◌, ◌≡◌, refl, sym, ap, ◌∙◌, subst, arith, ℤ, List, [], ◌∷◌, length, length-map, Option, Some, None, Contains, codes, ◌⊎◌, inl, inr}
+use Rattle.std.proofs.Common.{ℕ, zero, suc, ◌≤◌, ◌<◌, ◌≡◌, refl, sym, ap, ◌∙◌, subst, arith, ℤ, List, [], ◌∷◌, length, Option, Some, None, Contains, codes, ◌⊎◌, inl, inr}
+use Rattle.std.proofs.lemmas.List.{length-map}
 use Rattle.std.specs.Prelude.{slice_get, MatchOption, MatchResult, Result, Ok, Err, ◌^◌}
 use Rattle.nml_tree.specs.declared.tree.Desc.{Desc}
 use Rattle.nml_tree.specs.declared.fault.DescFault.{DescFault}
@@ -122,7 +123,7 @@ pub summary_is : (d : Desc) (all : List Shape) (s : Shape) (ps : List ℕ) (zs :
 summary_is d all s ps zs b h c p z f =
     let o = some_of d all s h.are c in
     let even : IsWordWidth (table d) (length (image o.0)) = λ y k. one_width d (less d 10 12 (omega arith) h.typed) y o.0 k o.1 in
-    let r = word_is_root d h.typed all h.are (length (image o.0)) s s.value even c (value_inside d h.typed all h.are s c) (subst (λ n. n < 2 ^ length (image o.0)) (sym o.2.value_is) (value_below o.0)) in
+    let r = word_is_root d h.typed all h.are (length (image o.0)) even s s.value c (value_inside d h.typed all h.are s c) (subst (λ n. n < 2 ^ length (image o.0)) (sym o.2.value_is) (value_below o.0)) in
     let is = f r.0 (record { derivation = r.1; picks = r.2 ∙ sym p; fields = r.4 ∙ sym z }) in
     record {
       shapes = picks_of all;
@@ -137,3 +138,7 @@ pub checked_or : (d : Desc) (all : List Shape) (r : Result (Unit {0}) DescFault)
     → MatchResult r (λ done. HasNoPair HaveTokens all) (λ f. IsRefused d f) → MatchResult r (λ done. IsChecked d) (λ f. IsRefused d f)
 checked_or d all (Ok done) h images texts = checked d all h images texts
 checked_or d all (Err f) h images refused = refused
+
+-- the first of them is one of them
+pub first_in : (all shapes : List Shape) (s : Shape) → shapes ≡ all → Some s ≡ slice_get shapes 0 → Contains all s
+first_in all shapes s e at = contains_at all 0 s (subst (λ (xs : List Shape). slice_get xs 0 ≡ Some s) e (sym at))

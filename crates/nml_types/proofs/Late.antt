@@ -42,4 +42,3 @@ free_images d free none = next_free d 13 free (λ h. by (late d 13 (omega arith)
     by (Shapes c m s e h) = omega (arith, e)
     by (Image a b e h) = none a b h
     by (Syntax a b e h) = omega (arith, e)
-

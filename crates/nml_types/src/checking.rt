@@ -10,6 +10,7 @@ ghost use Rattle.nml_types.specs.Summary.{IsSummary};
 ghost use Rattle.shape_table.specs.Meet.{HasTypes};
 ghost use Rattle.std.specs.Prelude.{◌≡◌, ◌<◌, length, slice_get, IfOk, MatchResult, Some};
 
+use crate::typing::typed;
 use attr_eval::{image, syntax};
 use nk_base::Memory;
 use nml_shape::Shape;
@@ -19,8 +20,6 @@ use shape_table::{
     overlap_image, shapes, tokens_text,
 };
 use std::alloc::Global;
-
-use crate::typing::typed;
 
 /// The description, where none of the faults N4 to N14 holds of it; else the one of the lowest number, at its first place. `DescFault`
 /// names them.
@@ -59,7 +58,11 @@ fn listed(alloc: Global, d: &Typed) -> Result<Vec<Shape>, DescFault>
 {
     match shapes(alloc, d) {
         Ok(all) => Ok(all),
-        Err(ShapeFault::Many { count, nodes, size }) => Err(DescFault::Shapes { count, nodes, size }),
+        Err(ShapeFault::Many { count, nodes, size }) => Err(DescFault::Shapes {
+            count,
+            nodes,
+            size,
+        }),
         Err(ShapeFault::Memory) => Err(DescFault::Memory),
     }
 }
@@ -166,6 +169,7 @@ pub fn sum_up(alloc: Global, d: &Checked) -> Result<Summary, Memory>
     let Ok(all) = shapes(alloc, d.typed()) else {
         return Err(Memory); // an accepted description hasn't too many
     };
+    let all = all.as_slice();
     let Some(first) = all.first() else {
         return Err(Memory); // there is an instruction
     };

@@ -1,18 +1,19 @@
-use Rattle.std.proofs.Common.{rules, ◌≡◌, ◌<◌, length, slice_get, IfOk, MatchResult, Some, ℕ, ◌+◌, ◌-◌, ◌*◌, ◌≤◌, ◌/◌, ◌%◌, Bool, true, false, nat_eq, nat_lt, List, [], ◌∷◌, ◌++◌, slice_index_or, slice_set, bit_and, bit_or, Fits, w8, w32, w64, Bor, MutBor}
-use Rattle.nml_shape.specs.Common.{IsSingle}
-use Rattle.nml_shape.specs.First.{HasNoPair, HaveTokens, HaveWord}
-use Rattle.nml_shape.specs.Shown.{AreAllShapes, numbers_in}
-use Rattle.nml_tree.specs.Refused.{IsChecked, IsFreeBelow, IsRefused}
+use Rattle.std.proofs.Common.{ap, length, subst, sym}
 use Rattle.nml_tree.specs.Table.{table}
-use Rattle.nml_types.specs.Pairs.{AreFirstImages, AreFirstTokens, AreListed, IsAlike, IsSaid}
 use Rattle.nml_types.specs.Summary.{IsSummary}
-use Rattle.shape_table.specs.Meet.{HasTypes}
+use Rattle.nml_types.proofs.Checks.{first_in, shape_types, summary_is}
 use Rattle.nml_types.proofs.checking.sum_up.Goals as goal
 
--- src/checking.rt:172:34
 pub instruction-requires : goal.instruction-requires
-instruction-requires c = ?
+instruction-requires c =
+    let h = rw c.typed.ensures at c.in-Ok.ensures in
+    shape_types c.args.d.now c.in-Ok.all.items c.in-Some.first.now h.typed h.are
+    (first_in c.in-Ok.all.items c.as_slice-all.result.now c.in-Some.first.now c.as_slice-all.ensures.value c.in-Some.ensures.value)
 
--- src/checking.rt:163:1
 pub returns : goal.returns
-returns c = ?
+returns c =
+    let h = rw c.typed.ensures at c.in-Ok.ensures in
+    let s = summary_is c.args.d.now c.in-Ok.all.items c.in-Some.first.now _ _ c.image-word.result h
+    (first_in c.in-Ok.all.items c.as_slice-all.result.now c.in-Some.first.now c.as_slice-all.ensures.value c.in-Some.ensures.value)
+    c.in_ok-instruction.ensures.0 c.in_ok-instruction.ensures.1 (rw c.typed-2.ensures at c.image-word.ensures) in
+    subst (λ n. IsSummary (table c.args.d.now) n c.image-word.result.width) (sym (ap length c.as_slice-all.ensures.value)) s
