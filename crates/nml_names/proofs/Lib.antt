@@ -3,6 +3,7 @@ pub mod DeclaredNames
 pub mod Items
 pub mod Turns
 pub mod Search
+pub mod Ranks
 pub mod RuleNames
 pub mod Cycles
 pub mod Tallying

@@ -63,7 +63,7 @@ pub fn rule_order(
     ensures { IfOk result (λ found. IfSome found (λ order. IsOrder (spec.graph d.now.items) order.items)) }
 {
     let rows = graph(alloc, names, d.items.as_slice())?;
-    let order = guess(alloc, &rows)?;
+    let order = guess(alloc, &rows)?.order;
     if is_order(alloc, &rows, order.as_slice())? {
         return Ok(Some(order));
     }

@@ -12,6 +12,7 @@ mod names;
 mod noting;
 mod order;
 mod parameters;
+mod rank;
 mod reach;
 mod root;
 mod scope;
