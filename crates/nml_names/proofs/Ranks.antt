@@ -1,7 +1,7 @@
 -- Ranks that rise from each rule to those that it names.
-use Rattle.std.proofs.Common.{ℕ, ◌≡◌, ◌≤◌, ◌<◌, ◌+◌, subst, sym, ◌∙◌, arith, Bool, true, false, List, length, get_or, inl, inr}
+use Rattle.std.proofs.Common.{ℕ, ◌≡◌, ◌≤◌, ◌<◌, ◌+◌, subst, arith, Bool, true, false, List, length, get_or, inl, inr}
 use Rattle.std.proofs.lemmas.Bool.{cases_lt}
-use Rattle.nml_names.specs.Graphs.{Graph, row, Among, Edge, Reaches, at_once, over, IsUp, Rises}
+use Rattle.nml_names.specs.Graphs.{Graph, Among, Edge, Reaches, at_once, over, IsUp, Rises}
 use Rattle.nml_names.proofs.Search.{among_get, from_below, row_is, starts_below}
 
 -- what is reached has no lower rank
