@@ -16,6 +16,7 @@ mod rank;
 mod reach;
 mod root;
 mod scope;
+mod settle;
 mod tally;
 mod used;
 mod used_stmt;
