@@ -3,7 +3,7 @@ use Rattle.std.proofs.Common.{ℕ, zero, suc, ◌≡◌, ◌≤◌, ◌<◌, ◌
 use Rattle.std.specs.Prelude.{◌⊎◌}
 use Rattle.std.proofs.lemmas.List.{get_or-set_same, get_or-set_other, length-set}
 use Rattle.std.proofs.lemmas.Bool.{cases_eq, cases_lt}
-use Rattle.nml_names.specs.Graphs.{Graph, row, Among, Edge, Reaches, at_once, over, InRange, Grounded, grounded, Marked, IsSearch, Visited, StandsBefore, Ordering, IsOrder}
+use Rattle.nml_names.specs.Graphs.{Graph, row, Among, Edge, Reaches, at_once, over, InRange, Grounded, grounded, Marked, IsSearch, Visited, Ordering, IsOrder}
 
 pub row_is : (g : Graph) (x : ℕ) (d : List ℕ) → x < length g → get_or g x d ≡ row g x
 row_is [] x d low = absurd (omega arith)

@@ -5,7 +5,7 @@ use Rattle.std.specs.List.{IsDistinct, AllByRecursion, list_any}
 use Rattle.std.proofs.lemmas.Bool.{cases_lt, eqb-true, eq-eqb}
 use Rattle.std.proofs.lemmas.List.{get_or_push, get_or_append_left}
 use Rattle.std.proofs.lemmas.Map.Steps.{length-le_from_distinct_below}
-use Rattle.nml_names.specs.Graphs.{Graph, row, Among, Edge, Reaches, at_once, InRange, Grounded, grounded, Marked, Ordering, IsOrder}
+use Rattle.nml_names.specs.Graphs.{Graph, Among, Edge, Reaches, at_once, InRange, Grounded, grounded, Marked, Ordering, IsOrder}
 use Rattle.nml_names.proofs.Search.{row_is, reaches_further, ordering_step, is_order}
 
 or_true : (a b : Bool) → (a || b) ≡ true → (a ≡ true) ⊎ (b ≡ true)
