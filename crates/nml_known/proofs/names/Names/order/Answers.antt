@@ -1,0 +1,8 @@
+use Rattle.std.proofs.Common.{ℕ, IfOk, MatchOption, subst}
+use Rattle.nml_tree.specs.declared.tree.Desc.{Desc}
+use Rattle.nml_names.specs.Below as below
+use Rattle.nml_names.specs.Graphs.{IsOrder, Reaches}
+use Rattle.nml_known.proofs.names.Names.order.Goals as goal
+
+pub returns : goal.returns
+returns c = subst (λ (d : Desc). IfOk c.rule_order.result (λ found. MatchOption found ((n : ℕ) × Reaches (below.graph d.items) n n) (λ order. IsOrder (below.graph d.items) order.items))) c.self.view_is c.rule_order.ensures
