@@ -61,7 +61,7 @@ pub fn rule_order(
     d: &Desc,
 ) -> Result<Option<Vec<usize>>, Memory>
     requires { AreDeclared names.now.entries d.now.items }
-    ensures { IfOk result (λ found. MatchOption found ((n : ℕ) × Reaches (spec.graph d.now.items) n n) (λ order. IsOrder (spec.graph d.now.items) order.items)) }
+    ensures { IfOk result (λ found. MatchOption found ((rule : List ℕ) × CycleFault (table d.now) rule) (λ order. IsOrder (spec.graph d.now.items) order.items)) }
 {
     let rows = graph(alloc, names, d.items.as_slice())?;
     order_of(alloc, &rows)
