@@ -21,6 +21,19 @@ use attr_eval::{
 use nml_state::{State, find};
 use nml_tree::{Expr, Item, Pars, PortWord, Un};
 
+/// Where an expression of a rule is read: in a state and with a next input, the rule's parameters, and the picks and fields of their
+/// arguments in front, with at most so many rules below one another.
+#[derive(Clone, Copy)]
+pub struct Front<'a> {
+    pub items: &'a [Item],
+    pub state: &'a State,
+    pub next: Option<i64>,
+    pub pars: &'a Option<Pars>,
+    pub picks: &'a [u32],
+    pub fields: &'a [i128],
+    pub limit: usize,
+}
+
 /// What is read of the mode whose derivation stands in front.
 #[cycle(read)]
 pub fn mode_seen(
@@ -44,77 +57,73 @@ pub fn mode_seen(
         }
         Turn::Made(rule) => match rule.value {
             None => number(0),
-            Some(e) => worth(items, s, next, rule.pars, e, picks, fields, limit - 1),
+            Some(e) => {
+                let front = Front {
+                    items,
+                    state: s,
+                    next,
+                    pars: rule.pars,
+                    picks,
+                    fields,
+                    limit: limit - 1,
+                };
+                worth(front, e)
+            }
         },
     }
 }
 
 /// What is read of an expression of a rule with these parameters, whose arguments stand in front.
 #[cycle(read)]
-pub fn worth(
-    items: &[Item],
-    s: &State,
-    next: Option<i64>,
-    pars: &Option<Pars>,
-    e: &Expr,
-    picks: &[u32],
-    fields: &[i128],
-    limit: usize,
-) -> Seen
-    ensures { (args : Arguments) (ks : List ℕ) (ys : List ℤ) (n : ℕ) (zs : List ℤ) (rule : Rule) → WalksAll (entries [] items.now) (pars_of pars.now) limit args picks.now fields.now ks ys → Stands (entries [] items.now) n (view zs s.now next) fields.now → Everywhere (Sound (rule_scope (entries [] items.now) rule) (arguments (entries [] items.now) n args) (view zs s.now next)) (formula e.now) → result ≡ seen (view zs s.now next) (term (entries [] items.now) (arguments (entries [] items.now) n args) (formula e.now)) }
+pub fn worth(front: Front<'_>, e: &Expr) -> Seen
+    ensures { (args : Arguments) (ks : List ℕ) (ys : List ℤ) (n : ℕ) (zs : List ℤ) (rule : Rule) → WalksAll (entries [] front.entry.items.now) (pars_of front.entry.pars.now) front.entry.limit args front.entry.picks.now front.entry.fields.now ks ys → Stands (entries [] front.entry.items.now) n (view zs front.entry.state.now front.entry.next) front.entry.fields.now → Everywhere (Sound (rule_scope (entries [] front.entry.items.now) rule) (arguments (entries [] front.entry.items.now) n args) (view zs front.entry.state.now front.entry.next)) (formula e.now) → result ≡ seen (view zs front.entry.state.now front.entry.next) (term (entries [] front.entry.items.now) (arguments (entries [] front.entry.items.now) n args) (formula e.now)) }
 {
     match top(e) {
         Node::Numeral(k) => number(k as i128),
         Node::Truth(b) => number(truth(b)),
         Node::Named(name) => {
             let text = name.text.as_bytes();
-            named(items, s, next, pars, text, number(0), picks, fields, limit)
+            named(front, text, number(0))
         }
         Node::Indexed(name, i) => {
-            let index = worth(items, s, next, pars, i, picks, fields, limit);
+            let index = worth(front, i);
             let text = name.text.as_bytes();
-            named(items, s, next, pars, text, index, picks, fields, limit)
+            named(front, text, index)
         }
-        Node::Paren(x) => worth(items, s, next, pars, x, picks, fields, limit),
+        Node::Paren(x) => worth(front, x),
         Node::Int(n, x) => {
-            let a = worth(items, s, next, pars, x, picks, fields, limit);
-            one(Un::Int(size_bits(items, n)), a)
+            let a = worth(front, x);
+            one(Un::Int(size_bits(front.items, n)), a)
         }
         Node::Card(n, x) => {
-            let a = worth(items, s, next, pars, x, picks, fields, limit);
-            one(Un::Card(size_bits(items, n)), a)
+            let a = worth(front, x);
+            one(Un::Card(size_bits(front.items, n)), a)
         }
         Node::Sat(n, x) => {
-            let a = worth(items, s, next, pars, x, picks, fields, limit);
-            one(Un::Sat(size_bits(items, n)), a)
+            let a = worth(front, x);
+            one(Un::Sat(size_bits(front.items, n)), a)
         }
         Node::Bits(x, hi, lo) => {
-            let a = worth(items, s, next, pars, x, picks, fields, limit);
-            one(Un::Bits(size_bits(items, hi), size_bits(items, lo)), a)
+            let a = worth(front, x);
+            one(
+                Un::Bits(size_bits(front.items, hi), size_bits(front.items, lo)),
+                a,
+            )
         }
         Node::Choose(c, x, y) => {
-            let test = worth(items, s, next, pars, c, picks, fields, limit);
+            let test = worth(front, c);
             if is_zero(test.value) {
-                behind(test, worth(items, s, next, pars, y, picks, fields, limit))
+                behind(test, worth(front, y))
             } else {
-                behind(test, worth(items, s, next, pars, x, picks, fields, limit))
+                behind(test, worth(front, x))
             }
         }
-        Node::Neg(x) => one(
-            Un::Neg,
-            worth(items, s, next, pars, x, picks, fields, limit),
-        ),
-        Node::Inv(x) => one(
-            Un::Inv,
-            worth(items, s, next, pars, x, picks, fields, limit),
-        ),
-        Node::Not(x) => one(
-            Un::Not,
-            worth(items, s, next, pars, x, picks, fields, limit),
-        ),
+        Node::Neg(x) => one(Un::Neg, worth(front, x)),
+        Node::Inv(x) => one(Un::Inv, worth(front, x)),
+        Node::Not(x) => one(Un::Not, worth(front, x)),
         Node::Binary(op, x, y) => {
-            let a = worth(items, s, next, pars, x, picks, fields, limit);
-            let b = worth(items, s, next, pars, y, picks, fields, limit);
+            let a = worth(front, x);
+            let b = worth(front, y);
             two(op, a, b)
         }
     }
@@ -122,25 +131,19 @@ pub fn worth(
 
 /// What is read of a name with this index: of a parameter, or else of what is declared.
 #[cycle(read)]
-pub fn named(
-    items: &[Item],
-    s: &State,
-    next: Option<i64>,
-    pars: &Option<Pars>,
-    name: &[u8],
-    index: Seen,
-    picks: &[u32],
-    fields: &[i128],
-    limit: usize,
-) -> Seen
-    ensures { (args : Arguments) (ks : List ℕ) (ys : List ℤ) (n : ℕ) (zs : List ℤ) (i : Term) → WalksAll (entries [] items.now) (pars_of pars.now) limit args picks.now fields.now ks ys → Stands (entries [] items.now) n (view zs s.now next) fields.now → IsIndex (view zs s.now next) index i → result ≡ seen (view zs s.now next) (reference (entries [] items.now) (arguments (entries [] items.now) n args) name.now i) }
+pub fn named(front: Front<'_>, name: &[u8], index: Seen) -> Seen
+    ensures { (args : Arguments) (ks : List ℕ) (ys : List ℤ) (n : ℕ) (zs : List ℤ) (i : Term) → WalksAll (entries [] front.entry.items.now) (pars_of front.entry.pars.now) front.entry.limit args front.entry.picks.now front.entry.fields.now ks ys → Stands (entries [] front.entry.items.now) n (view zs front.entry.state.now front.entry.next) front.entry.fields.now → IsIndex (view zs front.entry.state.now front.entry.next) index i → result ≡ seen (view zs front.entry.state.now front.entry.next) (reference (entries [] front.entry.items.now) (arguments (entries [] front.entry.items.now) n args) name.now i) }
 {
-    match first_par(pars, name) {
-        None => declared_seen(items, s, next, name, index),
+    let items = front.items;
+    match first_par(front.pars, name) {
+        None => declared_seen(items, front.state, front.next, name, index),
         Some((k, par)) => {
-            let (p, f) = skip_pars(items, pars, k, picks, fields, limit);
+            let (p, f) = skip_pars(items, front.pars, k, front.picks, front.fields, front.limit);
             match part_of(items, &par.ty) {
-                Some(rule) => mode_seen(items, s, next, rule.as_bytes(), p, f, limit),
+                Some(rule) => {
+                    let name = rule.as_bytes();
+                    mode_seen(items, front.state, front.next, name, p, f, front.limit)
+                }
                 None => first_field(f),
             }
         }

@@ -113,18 +113,10 @@ fn run_one(
         Stmt::Assign(place, _, e, _) => assign(
             items, pars, place, e, s, next, out, picks, fields, limit, done,
         ),
-        Stmt::Part(name, _, _, _) => run_part(
-            items,
-            pars,
-            name.text.as_bytes(),
-            s,
-            next,
-            out,
-            picks,
-            fields,
-            limit,
-            done,
-        ),
+        Stmt::Part(name, _, _, _) => {
+            let text = name.text.as_bytes();
+            run_part(items, pars, text, s, next, out, picks, fields, limit, done)
+        }
         Stmt::Halt(_, _, e, _, _) => halt(items, pars, e, s, next, picks, fields, limit, done),
         Stmt::If(_, c, _, xs, other, _, _) => {
             let seen = test(items, pars, c, s, next, picks, fields, limit);
@@ -132,32 +124,14 @@ fn run_one(
             if is_zero(seen.value) {
                 match other {
                     None => done,
-                    Some((_, ys)) => run_block(
-                        items,
-                        pars,
-                        ys.as_slice(),
-                        s,
-                        next,
-                        out,
-                        picks,
-                        fields,
-                        limit,
-                        done,
-                    ),
+                    Some((_, ys)) => {
+                        let ys = ys.as_slice();
+                        run_block(items, pars, ys, s, next, out, picks, fields, limit, done)
+                    }
                 }
             } else {
-                run_block(
-                    items,
-                    pars,
-                    xs.as_slice(),
-                    s,
-                    next,
-                    out,
-                    picks,
-                    fields,
-                    limit,
-                    done,
-                )
+                let xs = xs.as_slice();
+                run_block(items, pars, xs, s, next, out, picks, fields, limit, done)
             }
         }
     }

@@ -15,7 +15,7 @@ ghost use Rattle.nml_tree.specs.Written.{arguments, index_term, reference, term}
 
 use crate::give::{Done, give, halt_with, look_at};
 use crate::look::{Seen, number};
-use crate::read::{named, worth};
+use crate::read::{Front, named, worth};
 use nk_base::Ty;
 use nml_state::State;
 use nml_tree::{Expr, Item, Pars, Place};
@@ -34,7 +34,16 @@ pub fn test(
     ensures { (args : Arguments) (ks : List ℕ) (ys : List ℤ) (n : ℕ) (zs : List ℤ) (rule : Rule) → WalksAll (entries [] items.now) (pars_of pars.now) limit args picks.now fields.now ks ys → drop n zs ≡ fields.now → Ready (entries [] items.now) next s.now → SoundNow (entries [] items.now) rule (arguments (entries [] items.now) n args) zs (formula e.now) → result ≡ seen (view zs s.now next) (term (entries [] items.now) (arguments (entries [] items.now) n args) (formula e.now)) }
 {
     s.values_fit();
-    worth(items, s, next, pars, e, picks, fields, limit)
+    let front = Front {
+        items,
+        state: s,
+        next,
+        pars,
+        picks,
+        fields,
+        limit,
+    };
+    worth(front, e)
 }
 
 /// What is read of the index of a place.
@@ -72,7 +81,16 @@ fn place_seen(
 {
     s.values_fit();
     let name = place.name.text.as_bytes();
-    named(items, s, next, pars, name, at, picks, fields, limit)
+    let front = Front {
+        items,
+        state: s,
+        next,
+        pars,
+        picks,
+        fields,
+        limit,
+    };
+    named(front, name, at)
 }
 
 /// Assigns the expression to the place.

@@ -65,29 +65,13 @@ pub fn reads(
         Node::Numeral(_) => 0,
         Node::Truth(_) => 0,
         Node::Named(name) => {
-            named_reads(
-                items,
-                pars,
-                name.text.as_bytes(),
-                0,
-                picks,
-                fields,
-                limit,
-                w,
-            )
+            let text = name.text.as_bytes();
+            named_reads(items, pars, text, 0, picks, fields, limit, w)
         }
         Node::Indexed(name, i) => {
             let index = reads(items, pars, i, picks, fields, limit, w);
-            named_reads(
-                items,
-                pars,
-                name.text.as_bytes(),
-                index,
-                picks,
-                fields,
-                limit,
-                w,
-            )
+            let text = name.text.as_bytes();
+            named_reads(items, pars, text, index, picks, fields, limit, w)
         }
         Node::Paren(x) => reads(items, pars, x, picks, fields, limit, w),
         Node::Int(_, x) => reads(items, pars, x, picks, fields, limit, w),

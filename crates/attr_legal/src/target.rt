@@ -146,31 +146,18 @@ fn expr_target(
     match top(e) {
         Node::Numeral(_) => None,
         Node::Truth(_) => None,
-        Node::Named(name) => named_target(
-            items,
-            pars,
-            name.text.as_bytes(),
-            Index {
+        Node::Named(name) => {
+            let text = name.text.as_bytes();
+            let first = Index {
                 at: Some(0),
                 reads: 0,
-            },
-            picks,
-            fields,
-            limit,
-            input,
-        ),
+            };
+            named_target(items, pars, text, first, picks, fields, limit, input)
+        }
         Node::Indexed(name, i) => {
             let index = index_of(items, pars, i, picks, fields, limit, input);
-            named_target(
-                items,
-                pars,
-                name.text.as_bytes(),
-                index,
-                picks,
-                fields,
-                limit,
-                input,
-            )
+            let text = name.text.as_bytes();
+            named_target(items, pars, text, index, picks, fields, limit, input)
         }
         Node::Paren(x) => expr_target(items, pars, x, picks, fields, limit, input),
         Node::Int(_, _) => None,

@@ -1,12 +1,13 @@
 //! The names of a description, each with what it is declared as.
 
-ghost use Rattle.std.specs.Prelude.{◌≡◌, [], IfOk, IfSome, Option, Some, option_map, unwrap_or};
+ghost use Rattle.std.specs.Prelude.{◌≡◌, [], IfOk, List, MatchOption, Option, Some, option_map, unwrap_or};
 ghost use Rattle.nk_base.specs.declared.number.Ty.{Ty};
 ghost use Rattle.nml_known.specs.Known.{all_known, item_number, known, parameter_told, told};
 ghost use Rattle.nml_names.specs.Below as below;
 ghost use Rattle.nml_known.specs.declared.known.Parameter.TheVariants as shown;
 ghost use Rattle.nml_names.specs.Graphs.{IsOrder};
 ghost use Rattle.nml_names.specs.Naming.{AreDeclared};
+ghost use Rattle.nml_tree.specs.Reach.{CycleFault};
 ghost use Rattle.nml_tree.specs.Table as spec;
 ghost use Rattle.nml_tree.specs.Table.{parameter_named, table};
 
@@ -146,10 +147,10 @@ impl<'a> Names<'a> {
         }
     }
 
-    /// The numbers of all items, each behind those that it names as alternatives or parts; `None` where no such order was found, which
-    /// is so wherever a rule reaches itself. The one error is want of memory.
+    /// The numbers of all items, each behind those that it names as alternatives or parts; `None` exactly where a rule reaches itself.
+    /// The one error is want of memory.
     pub fn order(&self, alloc: Global) -> Result<Option<Vec<usize>>, Memory>
-        ensures { IfOk result (λ found. IfSome found (λ order. IsOrder (below.graph self.now.items) order.items)) }
+        ensures { IfOk result (λ found. MatchOption found ((rule : List ℕ) × CycleFault (table self.now) rule) (λ order. IsOrder (below.graph self.now.items) order.items)) }
     {
         rule_order(alloc, &self.map, self.desc)
     }

@@ -1,5 +1,5 @@
 -- Rules that reach one another, by their names and by their numbers.
-use Rattle.std.proofs.Common.{◌≡◌, ℕ, zero, suc, ◌<◌, ◌≤◌, Bool, true, false, List, [], ◌∷◌, map, length, slice_get, Option, Some, None, refl, ap, sym, subst, ◌∙◌, arith, if◌then◌else◌, inl, inr, Contains, option_and_then}
+use Rattle.std.proofs.Common.{◌≡◌, ℕ, zero, suc, ◌<◌, ◌≤◌, Bool, true, false, List, [], ◌∷◌, map, length, slice_get, Option, Some, None, refl, ap, sym, subst, ◌∙◌, arith, if◌then◌else◌, inl, inr, Contains, option_and_then, Result, Ok, Err, IfOk, MatchOption}
 use Rattle.nml_tree.specs.declared.tree.TypeExpr.{TypeExpr}
 use Rattle.nml_tree.specs.declared.tree.TypeExpr.TheVariants as type_expr
 use Rattle.nml_tree.specs.declared.tree.Par.{Par}
@@ -228,6 +228,15 @@ module _ (d : Desc) where
       let b = lands n n r in
       let u = back b.0 n n b.1 r in
       rw (← stands_name b.0 n i b.1 at) (subst (λ y. reach.Reaches t b.0 y) (stands_name u.0 n i u.1 at ∙ sym (stands_name b.0 n i b.1 at)) u.2)
+
+  some_cycle : (n : ℕ) → Reaches g n n → (a : Text) × CycleFault t a
+  some_cycle n r = let b = lands n n r in ((declares b.1.what).text, cycle_back n b.1.what r b.1.at)
+
+  -- an answer about numbers, told of names
+  pub told_of_names : {V E : Type 0} (P : V → Type 0) (r : Result (Option V) E) → IfOk r (λ found. MatchOption found ((n : ℕ) × Reaches g n n) P) → IfOk r (λ found. MatchOption found ((a : Text) × CycleFault t a) P)
+  told_of_names P (Ok None) h = some_cycle h.0 h.1
+  told_of_names P (Ok (Some v)) h = h
+  told_of_names P (Err e) h = tt
 
   cycle_forth : (a : Text) → CycleFault t a → (n : ℕ) × RuleAt a n × Reaches g n n
   cycle_forth a h = let k = rule_at a (starts_far a a h) in (k.0, k.1, forth a a k.0 k.0 h k.1 k.1)

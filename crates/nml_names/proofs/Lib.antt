@@ -3,6 +3,8 @@ pub mod DeclaredNames
 pub mod Items
 pub mod Turns
 pub mod Search
+pub mod Ranks
+pub mod Settled
 pub mod RuleNames
 pub mod Cycles
 pub mod Tallying

@@ -3,7 +3,7 @@ use Rattle.std.proofs.Common.{ℕ, zero, suc, ◌≡◌, ◌≤◌, ◌<◌, ◌
 use Rattle.std.specs.Prelude.{◌⊎◌}
 use Rattle.std.proofs.lemmas.List.{get_or-set_same, get_or-set_other, length-set}
 use Rattle.std.proofs.lemmas.Bool.{cases_eq, cases_lt}
-use Rattle.nml_names.specs.Graphs.{Graph, row, Among, Edge, Reaches, at_once, over, InRange, Grounded, grounded, Marked, IsSearch, Visited, StandsBefore, IsOrder}
+use Rattle.nml_names.specs.Graphs.{Graph, row, Among, Edge, Reaches, at_once, over, InRange, Grounded, grounded, Marked, IsSearch, Visited, Ordering, IsOrder}
 
 pub row_is : (g : Graph) (x : ℕ) (d : List ℕ) → x < length g → get_or g x d ≡ row g x
 row_is [] x d low = absurd (omega arith)
@@ -151,13 +151,7 @@ visiting_new g a before after old work names i v low r =
 pub visiting_old : (g : Graph) (a : ℕ) (before after : List Bool) (old work names : List ℕ) (i : ℕ) → Visiting g a before after old work names i → Marked after (get_or names i 0) → Visiting g a before after old work names (i + 1)
 visiting_old g a before after old work names i v m = record { search = v.search; kept = v.kept; done = one_more after names i v.done m; front = v.front }
 
--- what is known of an order that was looked at up to i
-pub record Ordering (g : Graph) (order : List ℕ) (marks : List Bool) (i : ℕ) : Type 0 where
-  pub long : length marks ≡ length g
-  pub grounded : (a : ℕ) → Marked marks a → Grounded g a
-  pub before : (a : ℕ) → Marked marks a → StandsBefore order i a
-  pub behind : (p b : ℕ) → p < i → Edge g (get_or order p 0) b → StandsBefore order p b
-
+-- one place more of an order
 pub ordering_step : (g : Graph) (order : List ℕ) (marks : List Bool) (i : ℕ) (d names : List ℕ) → Ordering g order marks i → i < length order → get_or order i 0 < length g → names ≡ get_or g (get_or order i 0) d → ((b : ℕ) → Among names b → Marked marks b) → Ordering g order (set marks (get_or order i 0) true) (i + 1)
 ordering_step g order marks i d names o here low is all =
     let l = o.long in

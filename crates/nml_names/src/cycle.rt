@@ -1,9 +1,9 @@
 //! The first rule that reaches itself.
-ghost use Rattle.std.specs.Prelude.{◌≡◌, ◌<◌, ℕ, List, length, slice_get, Some, MatchOption, IfOk, IfSome};
+ghost use Rattle.std.specs.Prelude.{◌≡◌, ◌<◌, ℕ, List, length, slice_get, Some, MatchOption, IfOk};
 ghost use Rattle.nml_tree.specs.declared.tree.Item.{Item};
 ghost use Rattle.nml_tree.specs.Table.{table};
 ghost use Rattle.nml_tree.specs.Uses.{declares};
-ghost use Rattle.nml_names.specs.Graphs.{IsOrder, LeastOf, Reaches};
+ghost use Rattle.nml_names.specs.Graphs.{InRange, IsOrder, LeastOf, Reaches};
 ghost use Rattle.nml_names.specs.Naming.{AreDeclared};
 ghost use Rattle.nml_names.specs.Below as spec;
 ghost use Rattle.nml_tree.specs.Reach.{CycleFault};
@@ -14,9 +14,11 @@ use crate::first_loop::first_loop;
 use crate::guess::guess;
 use crate::names::{Declaration, declarations, declared_name};
 use crate::order::is_order;
+use crate::settle::settled;
 use indexmap::IndexMap;
 use nk_base::{Memory, Text};
 use nml_tree::Desc;
+use sqlite_items::Items;
 use std::alloc::Global;
 
 /// The number of the first item that is a rule and reaches itself.
@@ -50,8 +52,7 @@ pub fn first_cycle(alloc: Global, d: &Desc) -> Result<Option<Text>, Memory>
     }
 }
 
-/// The numbers of all items, each behind those that it names as alternatives or parts; `None` where no such order was found, which is so
-/// wherever a rule reaches itself.
+/// The numbers of all items, each behind those that it names as alternatives or parts; `None` exactly where a rule reaches itself.
 ///
 /// The map has the names that the items declare. The rule is this project's own. The one error is want of memory.
 pub fn rule_order(
@@ -60,12 +61,23 @@ pub fn rule_order(
     d: &Desc,
 ) -> Result<Option<Vec<usize>>, Memory>
     requires { AreDeclared names.now.entries d.now.items }
-    ensures { IfOk result (λ found. IfSome found (λ order. IsOrder (spec.graph d.now.items) order.items)) }
+    ensures { IfOk result (λ found. MatchOption found ((rule : List ℕ) × CycleFault (table d.now) rule) (λ order. IsOrder (spec.graph d.now.items) order.items)) }
 {
     let rows = graph(alloc, names, d.items.as_slice())?;
-    let order = guess(alloc, &rows)?;
-    if is_order(alloc, &rows, order.as_slice())? {
+    order_of(alloc, &rows)
+}
+
+/// The order that was guessed, where it is one; else one that is sought where no rule reaches itself.
+fn order_of(alloc: Global, graph: &[Items<usize>]) -> Result<Option<Vec<usize>>, Memory>
+    requires { InRange graph.now }
+    ensures { IfOk result (λ found. MatchOption found ((n : ℕ) × Reaches graph.now n n) (λ order. IsOrder graph.now order.items)) }
+{
+    let order = guess(alloc, graph)?.order;
+    if is_order(alloc, graph, order.as_slice())? {
         return Ok(Some(order));
     }
-    Ok(None)
+    match first_loop(alloc, graph)? {
+        Some(_) => Ok(None),
+        None => Ok(Some(settled(alloc, graph)?)),
+    }
 }

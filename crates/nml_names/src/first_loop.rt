@@ -4,7 +4,7 @@ ghost use Rattle.std.specs.Prelude.{IfOk};
 ghost use Rattle.nml_names.specs.Graphs.{Reaches, InRange, LeastOf};
 
 use crate::guess::guess;
-use crate::order::is_order;
+use crate::rank::{candidate, rises};
 use crate::reach::reaches_itself;
 use nk_base::Memory;
 use sqlite_items::Items;
@@ -16,14 +16,21 @@ pub fn first_loop(alloc: Global, graph: &[Items<usize>]) -> Result<Option<usize>
     requires { InRange graph.now }
     ensures { IfOk result (λ found. LeastOf (λ a. Reaches graph.now a a) found) }
 {
-    let order = guess(alloc, graph)?;
-    if is_order(alloc, graph, order.as_slice())? {
-        return Ok(None);
+    let guessed = guess(alloc, graph)?;
+    let ranks = guessed.ranks.as_slice();
+    let rule = candidate(graph, ranks);
+    if rises(graph, ranks, rule) {
+        if rule >= graph.len() {
+            return Ok(None);
+        }
+        if reaches_itself(alloc, graph, rule)? {
+            return Ok(Some(rule));
+        }
     }
     search(alloc, graph)
 }
 
-/// The first, by a search from each rule in turn.
+/// The first, by a search from each rule in turn: what is left where the ranks that were guessed show nothing.
 fn search(alloc: Global, graph: &[Items<usize>]) -> Result<Option<usize>, Memory>
     requires { InRange graph.now }
     ensures { IfOk result (λ found. LeastOf (λ a. Reaches graph.now a a) found) }

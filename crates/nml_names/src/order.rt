@@ -1,6 +1,6 @@
 //! Whether an order has each rule behind those that it names.
 
-ghost use Rattle.std.specs.Prelude.{◌≡◌, ◌<◌, ℕ, IfOk, IsTrue, length};
+ghost use Rattle.std.specs.Prelude.{◌≡◌, ◌<◌, ◌↔◌, ℕ, IfOk, IsTrue, false, length, slice_index_or};
 ghost use Rattle.nml_names.specs.Graphs.{IsOrder, Marked, Among};
 
 use nk_base::Memory;
@@ -23,16 +23,25 @@ pub fn is_order(alloc: Global, graph: &[Items<usize>], order: &[usize]) -> Resul
 }
 
 /// Whether all of these are placed.
-fn are_placed(placed: &Vec<bool>, names: &[usize]) -> bool
-    ensures { IsTrue result → (b : ℕ) → Among names.now b → Marked placed.now.items b }
+pub fn are_placed(placed: &Vec<bool>, names: &[usize]) -> bool
+    ensures { IsTrue result ↔ ((b : ℕ) → Among names.now b → Marked placed.now.items b) }
 {
     for i in 0..names.len() {
-        let name = names[i];
-        if name >= placed.len() || !placed[name] {
+        if !is_placed(placed, names[i]) {
             return false;
         }
     }
     true
+}
+
+/// Whether this rule is placed; not so beyond the marks.
+pub fn is_placed(placed: &Vec<bool>, rule: usize) -> bool
+    ensures { result ≡ slice_index_or placed.now.items rule false }
+{
+    match placed.get(rule) {
+        None => false,
+        Some(mark) => *mark,
+    }
 }
 
 fn all(placed: &Vec<bool>) -> bool

@@ -9,7 +9,7 @@ abbrev pub decreases-mode_seen : goal.decreases-mode_seen
 decreases-mode_seen l = l.limit * (deepest (entries [] l.items.now) + 3)
 
 abbrev pub decreases-named : goal.decreases-named
-decreases-named l = l.limit * (deepest (entries [] l.items.now) + 3) + 1
+decreases-named l = l.front.limit * (deepest (entries [] l.front.items.now) + 3) + 1
 
 abbrev pub decreases-worth : goal.decreases-worth
-decreases-worth l = l.limit * (deepest (entries [] l.items.now) + 3) + depth (formula l.e.now) + 1
+decreases-worth l = l.front.limit * (deepest (entries [] l.front.items.now) + 3) + depth (formula l.e.now) + 1

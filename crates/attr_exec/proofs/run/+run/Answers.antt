@@ -78,14 +78,14 @@ pub run_one-run_block-requires : goal.run_one-run_block-requires
 run_one-run_block-requires t c =
     let is : c.args.limit * (2 * deepest_action (entries [] c.args.items.now) + 4) + 2 * block_depth (stmt c.args.stmt.now block.Done) + 1 ≡ t = c.decreases in
     let low = else_depth _ _ _ _ _ _ _ _ c.in-If.is in
-    let other = ap block_depth (otherwise_some c.in-If.other _ c.as_slice.result.now c.in-Some.is c.as_slice.ensures) in
+    let other = ap block_depth (otherwise_some c.in-If.other _ c.as_slice-ys.result.now c.in-Some.is c.as_slice-ys.ensures) in
     (rw (← is) (omega (arith, low, other)), tt)
 
 pub run_one-run_block-requires-else-is_zero : goal.run_one-run_block-requires-else-is_zero
 run_one-run_block-requires-else-is_zero t c =
     let is : c.args.limit * (2 * deepest_action (entries [] c.args.items.now) + 4) + 2 * block_depth (stmt c.args.stmt.now block.Done) + 1 ≡ t = c.decreases in
     let low = then_depth _ _ _ _ _ _ _ _ c.in-If.is in
-    let same = ap (λ xs. block_depth (block.block xs)) c.as_slice-else-is_zero.ensures in
+    let same = ap (λ xs. block_depth (block.block xs)) c.as_slice-xs.ensures in
     (rw (← is) (omega (arith, low, same)), tt)
 
 pub run_one-returns-in-Assign-clause-ran : goal.run_one-returns-in-Assign-clause-ran
@@ -94,7 +94,7 @@ run_one-returns-in-Assign-clause-ran t c = λ args ks ys n zs rule rest w left r
 
 pub run_one-returns-in-Part-clause-ran : goal.run_one-returns-in-Part-clause-ran
 run_one-returns-in-Part-clause-ran t c = λ args ks ys n zs rule rest w left r sound.
-    let k = rw c.as_bytes.ensures at c.run_part.ensures.ran in
+    let k = rw c.as_bytes-text.ensures at c.run_part.ensures.ran in
     part_one (entries [] c.args.items.now) rule (arguments (entries [] c.args.items.now) n args) zs c.args.out c.args.next rest _ _ _ _ _ (scene c.args.s.now c.args.done) (scene c.run_part.new.s c.run_part.result) c.in-Part.is sound (k args ks ys n zs w left r)
 
 pub run_one-returns-in-Halt-clause-ran : goal.run_one-returns-in-Halt-clause-ran
@@ -114,7 +114,7 @@ run_one-returns-in-Some-clause-ran t c = λ args ks ys n zs rule rest w left r s
     let fit : FitsSigned w128 c.test-seen.result.value = search rules in
     let zero : spec.is_zero c.test-seen.result.value ≡ true = ap spec.is_zero (sym (to_z-of_z w128 c.test-seen.result.value fit)) ∙ sym c.is_zero.ensures ∙ c.if-is_zero.true in
     let h = if_sound (entries [] c.args.items.now) rule (arguments (entries [] c.args.items.now) n args) zs c.args.out c.args.next rest _ _ _ _ _ _ _ _ c.in-If.is sound in
-    let other = otherwise_some c.in-If.other _ c.as_slice.result.now c.in-Some.is c.as_slice.ensures in
+    let other = otherwise_some c.in-If.other _ c.as_slice-ys.result.now c.in-Some.is c.as_slice-ys.ensures in
     let sub = subst (BlockSound (entries [] c.args.items.now) rule (arguments (entries [] c.args.items.now) n args) zs) other h.2 in
     if_one (entries [] c.args.items.now) rule (arguments (entries [] c.args.items.now) n args) zs c.args.out c.args.next rest _ _ _ _ _ _ _ _ c.args.s.now c.args.done c.look_at-done.result c.test-seen.result true (scene c.run_block.new.s c.run_block.result) c.in-If.is h.3
     (c.test-seen.ensures args ks ys n zs rule w left r h.0) zero c.look_at-done.ensures (λ e. absurd cc)
@@ -125,7 +125,7 @@ run_one-returns-else-is_zero-clause-ran t c = λ args ks ys n zs rule rest w lef
     let fit : FitsSigned w128 c.test-seen.result.value = search rules in
     let zero : spec.is_zero c.test-seen.result.value ≡ false = ap spec.is_zero (sym (to_z-of_z w128 c.test-seen.result.value fit)) ∙ sym c.is_zero.ensures ∙ c.if-is_zero.false in
     let h = if_sound (entries [] c.args.items.now) rule (arguments (entries [] c.args.items.now) n args) zs c.args.out c.args.next rest _ _ _ _ _ _ _ _ c.in-If.is sound in
-    let same = ap block.block c.as_slice-else-is_zero.ensures in
+    let same = ap block.block c.as_slice-xs.ensures in
     let sub = subst (BlockSound (entries [] c.args.items.now) rule (arguments (entries [] c.args.items.now) n args) zs) (sym same) h.1 in
     if_one (entries [] c.args.items.now) rule (arguments (entries [] c.args.items.now) n args) zs c.args.out c.args.next rest _ _ _ _ _ _ _ _ c.args.s.now c.args.done c.look_at-done.result c.test-seen.result false (scene c.run_block-else-is_zero.new.s c.run_block-else-is_zero.result) c.in-If.is h.3
     (c.test-seen.ensures args ks ys n zs rule w left r h.0) zero c.look_at-done.ensures

@@ -74,12 +74,12 @@ reads-returns-in-Truth t c = λ args ks ys n w. same_reads _ _ _ _ _ _ _ c.in-Tr
 
 pub reads-returns-in-Named : goal.reads-returns-in-Named
 reads-returns-in-Named t c = λ args ks ys n w.
-    let k = rw c.as_bytes.ensures at c.named_reads.ensures in
+    let k = rw c.as_bytes-text.ensures at c.named_reads.ensures in
     same_reads _ _ _ _ _ _ _ c.in-Named.ensures.is (k args ks ys n _ w refl)
 
 pub reads-returns-in-Indexed : goal.reads-returns-in-Indexed
 reads-returns-in-Indexed t c = λ args ks ys n w.
-    let k = rw c.as_bytes-in-Indexed.ensures at c.named_reads-in-Indexed.ensures in
+    let k = rw c.as_bytes-text-in-Indexed.ensures at c.named_reads-in-Indexed.ensures in
     same_reads _ _ _ _ _ _ _ c.in-Indexed.ensures.is.2 (k args ks ys n _ w (c.reads-index.ensures args ks ys n w))
 
 pub reads-returns-in-Paren : goal.reads-returns-in-Paren

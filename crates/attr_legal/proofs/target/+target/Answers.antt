@@ -68,12 +68,12 @@ named_target-returns-in-None-part_of t c = λ args ks ys n zs i w a h.
 
 pub expr_target-returns-in-Named : goal.expr_target-returns-in-Named
 expr_target-returns-in-Named t c = λ args ks ys n zs rule w a s.
-    let k = rw c.as_bytes.ensures at c.named_target.ensures in
+    let k = rw c.as_bytes-text.ensures at c.named_target.ensures in
     same_target _ _ zs _ _ _ _ c.in-Named.ensures.is (k args ks ys n zs _ w a refl)
 
 pub expr_target-returns-in-Indexed : goal.expr_target-returns-in-Indexed
 expr_target-returns-in-Indexed t c = λ args ks ys n zs rule w a s.
-    let k = rw c.as_bytes-in-Indexed.ensures at c.named_target-in-Indexed.ensures in
+    let k = rw c.as_bytes-text-in-Indexed.ensures at c.named_target-in-Indexed.ensures in
     let e = subst (Everywhere (Sound (rule_scope (entries [] c.args.items.now) rule) (arguments (entries [] c.args.items.now) n args) (alone zs))) c.in-Indexed.ensures.is.2 s in
     same_target _ _ zs _ _ _ _ c.in-Indexed.ensures.is.2 (k args ks ys n zs _ w a (c.index_of-index.ensures args ks ys n zs rule w a e.1))
 

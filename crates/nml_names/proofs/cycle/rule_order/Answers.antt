@@ -1,11 +1,14 @@
-use Rattle.std.proofs.Common.{◌∙◌, sym, subst}
-use Rattle.nml_names.specs.Graphs.{IsOrder}
+use Rattle.std.proofs.Common.{◌∙◌, sym, subst, ℕ, IfOk, MatchOption}
+use Rattle.nml_names.specs.Graphs.{InRange, IsOrder, Reaches}
+use Rattle.nml_names.specs.Below.{graph}
 use Rattle.nml_names.specs.Naming.{AreDeclared}
-use Rattle.nml_names.proofs.Cycles.{rows_are}
+use Rattle.nml_names.proofs.Cycles.{in_range, rows_are, told_of_names}
 use Rattle.nml_names.proofs.cycle.rule_order.Goals as goal
 
-pub returns-then-branch : goal.returns-then-branch
-returns-then-branch c =
-    let o = c.in_ok-is_order.ensures c.if-branch.true in
-    subst (λ g. IsOrder g c.in_ok-order.order.items) (rows_are c.args.d.now _ _ _ c.as_slice.ensures (subst (λ xs. AreDeclared c.args.names.now.entries xs) (sym c.as_slice.ensures) c.requires) (c.deref-2.ensures.value ∙ c.in_ok-rows.ensures))
-    (subst (λ xs. IsOrder c.deref-2.result.now xs) c.as_slice-2.ensures.value o)
+pub order_of-requires : goal.order_of-requires
+order_of-requires c = subst InRange (sym (rows_are c.args.d.now _ _ _ c.as_slice.ensures (subst (λ xs. AreDeclared c.args.names.now.entries xs) (sym c.as_slice.ensures) c.requires) (c.deref.ensures.value ∙ c.in_ok-rows.ensures))) (in_range c.args.d.now)
+
+pub returns : goal.returns
+returns c =
+    told_of_names c.args.d.now (λ order. IsOrder (graph c.args.d.now.items) order.items) c.order_of.result
+    (subst (λ g. IfOk c.order_of.result (λ found. MatchOption found ((n : ℕ) × Reaches g n n) (λ order. IsOrder g order.items))) (rows_are c.args.d.now _ _ _ c.as_slice.ensures (subst (λ xs. AreDeclared c.args.names.now.entries xs) (sym c.as_slice.ensures) c.requires) (c.deref.ensures.value ∙ c.in_ok-rows.ensures)) c.order_of.ensures)

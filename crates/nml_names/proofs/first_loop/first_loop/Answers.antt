@@ -1,5 +1,8 @@
-use Rattle.nml_names.proofs.Search.{starts_below, no_cycle}
+use Rattle.nml_names.proofs.Ranks.{none_at_all, none_before}
 use Rattle.nml_names.proofs.first_loop.first_loop.Goals as goal
 
+pub returns-then-rule-graph : goal.returns-then-rule-graph
+returns-then-rule-graph c = λ b r. none_at_all _ _ _ b (c.rises.ensures c.if-rises.true) c.if-rule-graph.true r
+
 pub returns-then-branch : goal.returns-then-branch
-returns-then-branch c = λ b r. no_cycle _ b ((c.in_ok-is_order.ensures c.if-branch.true).grounded b (starts_below _ b b r)) r
+returns-then-branch c = (c.in_ok-reaches_itself.ensures.0 c.if-branch.true, λ b r. none_before _ _ _ b (c.rises.ensures c.if-rises.true) r)

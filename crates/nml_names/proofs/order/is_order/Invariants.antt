@@ -1,4 +1,4 @@
-use Rattle.nml_names.proofs.Search.{Ordering}
+use Rattle.nml_names.specs.Graphs.{Ordering}
 use Rattle.nml_names.proofs.order.is_order.Given as goal
 
 abbrev pub invariant-loop-i : goal.invariant-loop-i
