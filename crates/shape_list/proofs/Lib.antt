@@ -5,3 +5,5 @@ pub mod Steps
 pub mod Texts
 pub mod Fillings
 pub mod Sketches
+pub mod Runs
+pub mod Shaped
