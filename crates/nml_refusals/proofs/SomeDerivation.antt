@@ -1,35 +1,15 @@
 -- Where no rule reaches itself each rule has a derivation: below it there are fewer rules than names.
-use Rattle.std.proofs.Common.{ℕ, zero, suc, ◌+◌, ◌≤◌, ◌≡◌, refl, sym, ap, subst, arith, true, append_assoc, List, [], ◌∷◌, ◌++◌, length, length-append, Option, Some, None, Contains}
+use Rattle.std.proofs.Common.{ℕ, zero, suc, ◌+◌, ◌≤◌, ◌≡◌, refl, sym, ap, subst, arith, true, append_assoc, List, [], ◌∷◌, ◌++◌, length, length-append, Option, Some, Contains}
 use Rattle.std.specs.Prelude.{IsSome}
 use Rattle.std.proofs.lemmas.Cmp.{nat_list_eq_equiv}
 use Rattle.std.proofs.lemmas.Map.Steps.{length-le_from_keys}
 use Rattle.nml_tree.specs.Table.{Text, Table, Declared, declared}
-use Rattle.nml_tree.specs.Derivation.{Pick, Compose}
 use Rattle.nml_tree.specs.Reach.{IsBelow, CycleFault}
 use Rattle.nml_tree.specs.Worth.{is_rule}
 use Rattle.nml_tree.proofs.Height.{IsChain, distinct, all_declared}
 use Rattle.nml_upward.specs.Upward.{IsRule, AreMade}
-use Rattle.nml_upward.proofs.Upward.{HasOne, has_arguments, below_is_rule}
+use Rattle.nml_upward.proofs.Upward.{HasOne, has_one, below_is_rule}
 
---COPY
--- a rule has a derivation where all below it have one
-has_one : (t : Table) → AreMade t → (a : Text) (o : Option Declared) → declared t a ≡ o → is_rule o ≡ true → ((b : Text) → IsBelow t a b → HasOne t b) → HasOne t a
-has_one t made a None is h below = absurd cc
-has_one t made a (Some (Declared.Constant z)) is h below = absurd cc
-has_one t made a (Some (Declared.TypeName ty)) is h below = absurd cc
-has_one t made a (Some (Declared.Storage n k ty)) is h below = absurd cc
-has_one t made a (Some (Declared.Trn n ty)) is h below = absurd cc
-has_one t made a (Some (Declared.Inp ty)) is h below = absurd cc
-has_one t made a (Some (Declared.Out ty)) is h below = absurd cc
-has_one t made a (Some (Declared.Or mode [])) is h below = absurd (omega (arith, made.some a mode [] is))
-has_one t made a (Some (Declared.Or mode (x ∷ names))) is h below =
-    let one = below x (IsBelow.Alternative mode (x ∷ names) is (0, omega arith, refl)) in
-    (Pick 0 one.0, (x, rw is refl, one.1))
-has_one t made a (Some (Declared.And rule)) is h below =
-    let args = has_arguments t rule.pars (made.parameters a rule is) (λ p b c part. below b (IsBelow.Part rule p is c part)) in
-    (Compose rule args.0, (is, args.1))
-
---ENDCOPY
 rule_known : (t : Table) (a : Text) (o : Option Declared) → declared t a ≡ o → is_rule o ≡ true → IsSome (declared t a)
 rule_known t a None is h = absurd cc
 rule_known t a (Some x) is h = rw is refl

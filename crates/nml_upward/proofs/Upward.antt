@@ -113,7 +113,7 @@ has_arguments t (p ∷ pars) right parts =
     by (Some (Parameter.Part b)) is h more = let x = parts p b (0, omega arith, refl) is in (Part p.name.text x.0 more.0, (p, pars, b, refl, refl, is, x.1, more.1))
 
 -- a rule has a derivation where all below it have one
-has_one : (t : Table) → AreMade t → (a : Text) (o : Option Declared) → declared t a ≡ o → is_rule o ≡ true → ((b : Text) → IsBelow t a b → HasOne t b) → HasOne t a
+pub has_one : (t : Table) → AreMade t → (a : Text) (o : Option Declared) → declared t a ≡ o → is_rule o ≡ true → ((b : Text) → IsBelow t a b → HasOne t b) → HasOne t a
 has_one t made a None is h below = absurd cc
 has_one t made a (Some (Declared.Constant z)) is h below = absurd cc
 has_one t made a (Some (Declared.TypeName ty)) is h below = absurd cc

@@ -1,0 +1,9 @@
+pub mod Bodies
+pub mod Members
+pub mod Listing
+pub mod Steps
+pub mod Texts
+pub mod Fillings
+pub mod Sketches
+pub mod Runs
+pub mod Shaped
