@@ -5,3 +5,4 @@ pub mod RootRule
 pub mod SomeDerivation
 pub mod Summaries
 pub mod TreeFaults
+pub mod Told

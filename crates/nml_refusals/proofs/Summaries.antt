@@ -17,9 +17,9 @@ pub one_summary : (t : Table) (count width other wide : ℕ) → IsSummary t cou
 one_summary t count width other wide h k =
     (h.count_is ∙ ap length (one_list_of_shapes t h.shapes k.shapes h.all k.all) ∙ sym k.count_is, sym (h.width_is h.some.0 h.some.1) ∙ k.width_is h.some.0 h.some.1)
 
-less : (d : Desc) (n : ℕ) → n ≤ 12 → IsTyped d → IsFreeBelow n d
-less d n le free k low h = free k (omega (arith, low, le)) h
+pub less : (d : Desc) (m n : ℕ) → m ≤ n → IsFreeBelow n d → IsFreeBelow m d
+less d m n le free k low h = free k (omega (arith, low, le)) h
 
 -- there is an instruction
 pub some_root : (d : Desc) → IsTyped d → (x : Derivation) × IsRoot (table d) x
-some_root d typed = has_derivation (table d) (are_made d (less d 8 (omega arith) typed)) (λ r f. typed 5 (omega arith) (By_cycle r f)) (codes "instruction") (root_rule d typed)
+some_root d typed = has_derivation (table d) (are_made d (less d 8 12 (omega arith) typed)) (λ r f. typed 5 (omega arith) (By_cycle r f)) (codes "instruction") (root_rule d typed)
