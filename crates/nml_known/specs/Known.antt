@@ -1,5 +1,5 @@
 -- What names are declared as, with no more of it than kinds and widths ask for.
-use Rattle.std.specs.Prelude.{ℕ, min, Bool, is_some, List, [], ◌∷◌, ◌++◌, Option, option_map, unwrap_or}
+use Rattle.std.specs.Prelude.{ℕ, min, is_some, List, [], ◌∷◌, ◌++◌, Option, option_map, unwrap_or}
 use Rattle.nk_base.specs.declared.number.Ty.{Ty}
 use Rattle.nk_base.specs.declared.number.Ty.TheVariants as ty
 use Rattle.nml_tree.specs.declared.tree.Item.{Item}

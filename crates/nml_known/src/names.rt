@@ -1,6 +1,6 @@
 //! The names of a description, each with what it is declared as.
 
-ghost use Rattle.std.specs.Prelude.{◌≡◌, [], IfOk, List, MatchOption, Option, Some, option_map, unwrap_or};
+ghost use Rattle.std.specs.Prelude.{◌≡◌, [], ℕ, IfOk, List, MatchOption, Option, Some, option_map, unwrap_or};
 ghost use Rattle.nk_base.specs.declared.number.Ty.{Ty};
 ghost use Rattle.nml_known.specs.Known.{all_known, item_number, known, parameter_told, told};
 ghost use Rattle.nml_names.specs.Below as below;
