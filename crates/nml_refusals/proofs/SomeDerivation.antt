@@ -1,5 +1,5 @@
 -- Where no rule reaches itself each rule has a derivation: below it there are fewer rules than names.
-use Rattle.std.proofs.Common.{ℕ, zero, suc, ◌+◌, ◌≤◌, ◌≡◌, refl, sym, ap, subst, arith, true, append_assoc, List, [], ◌∷◌, ◌++◌, length, length-append, Option, Some, Contains}
+use Rattle.std.proofs.Common.{ℕ, zero, suc, ◌+◌, ◌≤◌, ◌≡◌, refl, sym, ap, subst, arith, true, append_assoc, List, [], ◌∷◌, ◌++◌, length, length-append, Option, Some, None, Contains}
 use Rattle.std.specs.Prelude.{IsSome}
 use Rattle.std.proofs.lemmas.Cmp.{nat_list_eq_equiv}
 use Rattle.std.proofs.lemmas.Map.Steps.{length-le_from_keys}
