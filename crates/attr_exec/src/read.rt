@@ -91,24 +91,12 @@ pub fn worth(front: Front<'_>, e: &Expr) -> Seen
             named(front, text, index)
         }
         Node::Paren(x) => worth(front, x),
-        Node::Int(n, x) => {
-            let a = worth(front, x);
-            one(Un::Int(size_bits(front.items, n)), a)
-        }
-        Node::Card(n, x) => {
-            let a = worth(front, x);
-            one(Un::Card(size_bits(front.items, n)), a)
-        }
-        Node::Sat(n, x) => {
-            let a = worth(front, x);
-            one(Un::Sat(size_bits(front.items, n)), a)
-        }
+        Node::Int(n, x) => one(Un::Int(size_bits(front.items, n)), worth(front, x)),
+        Node::Card(n, x) => one(Un::Card(size_bits(front.items, n)), worth(front, x)),
+        Node::Sat(n, x) => one(Un::Sat(size_bits(front.items, n)), worth(front, x)),
         Node::Bits(x, hi, lo) => {
-            let a = worth(front, x);
-            one(
-                Un::Bits(size_bits(front.items, hi), size_bits(front.items, lo)),
-                a,
-            )
+            let op = Un::Bits(size_bits(front.items, hi), size_bits(front.items, lo));
+            one(op, worth(front, x))
         }
         Node::Choose(c, x, y) => {
             let test = worth(front, c);

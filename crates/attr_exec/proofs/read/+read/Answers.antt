@@ -87,15 +87,15 @@ worth-returns-in-Paren t c = λ args ks ys n zs rule w a s.
 
 pub worth-returns-in-Int : goal.worth-returns-in-Int
 worth-returns-in-Int t c = λ args ks ys n zs rule w a s.
-    int_node _ rule _ (view zs c.args.front.state.now c.args.front.next) _ (formula c.in-Int.x.now) c.in-Int.n.now c.size_bits.result c.worth-a.result _ c.in-Int.ensures.is s (λ e. c.worth-a.ensures args ks ys n zs rule w a e) c.size_bits.ensures c.one.ensures
+    int_node _ rule _ (view zs c.args.front.state.now c.args.front.next) _ (formula c.in-Int.x.now) c.in-Int.n.now c.size_bits.result c.worth-in-Int.result _ c.in-Int.ensures.is s (λ e. c.worth-in-Int.ensures args ks ys n zs rule w a e) c.size_bits.ensures c.one.ensures
 
 pub worth-returns-in-Card : goal.worth-returns-in-Card
 worth-returns-in-Card t c = λ args ks ys n zs rule w a s.
-    card_node _ rule _ (view zs c.args.front.state.now c.args.front.next) _ (formula c.in-Card.x.now) c.in-Card.n.now c.size_bits-in-Card.result c.worth-a-in-Card.result _ c.in-Card.ensures.is s (λ e. c.worth-a-in-Card.ensures args ks ys n zs rule w a e) c.size_bits-in-Card.ensures c.one-in-Card.ensures
+    card_node _ rule _ (view zs c.args.front.state.now c.args.front.next) _ (formula c.in-Card.x.now) c.in-Card.n.now c.size_bits-in-Card.result c.worth-in-Card.result _ c.in-Card.ensures.is s (λ e. c.worth-in-Card.ensures args ks ys n zs rule w a e) c.size_bits-in-Card.ensures c.one-in-Card.ensures
 
 pub worth-returns-in-Sat : goal.worth-returns-in-Sat
 worth-returns-in-Sat t c = λ args ks ys n zs rule w a s.
-    sat_node _ rule _ (view zs c.args.front.state.now c.args.front.next) _ (formula c.in-Sat.x.now) c.in-Sat.n.now c.size_bits-in-Sat.result c.worth-a-in-Sat.result _ c.in-Sat.ensures.is s (λ e. c.worth-a-in-Sat.ensures args ks ys n zs rule w a e) c.size_bits-in-Sat.ensures c.one-in-Sat.ensures
+    sat_node _ rule _ (view zs c.args.front.state.now c.args.front.next) _ (formula c.in-Sat.x.now) c.in-Sat.n.now c.size_bits-in-Sat.result c.worth-in-Sat.result _ c.in-Sat.ensures.is s (λ e. c.worth-in-Sat.ensures args ks ys n zs rule w a e) c.size_bits-in-Sat.ensures c.one-in-Sat.ensures
 
 pub worth-returns-in-Neg : goal.worth-returns-in-Neg
 worth-returns-in-Neg t c = λ args ks ys n zs rule w a s.
@@ -111,7 +111,7 @@ worth-returns-in-Not t c = λ args ks ys n zs rule w a s.
 
 pub worth-returns-in-Bits : goal.worth-returns-in-Bits
 worth-returns-in-Bits t c = λ args ks ys n zs rule w a s.
-    bits_node _ rule _ (view zs c.args.front.state.now c.args.front.next) _ (formula c.in-Bits.x.now) c.in-Bits.hi.now c.in-Bits.lo.now c.size_bits-in-Bits.result c.size_bits-in-Bits-2.result c.worth-a-in-Bits.result _ c.in-Bits.ensures.is s (λ e. c.worth-a-in-Bits.ensures args ks ys n zs rule w a e) c.size_bits-in-Bits.ensures c.size_bits-in-Bits-2.ensures c.one-in-Bits.ensures
+    bits_node _ rule _ (view zs c.args.front.state.now c.args.front.next) _ (formula c.in-Bits.x.now) c.in-Bits.hi.now c.in-Bits.lo.now c.size_bits-in-Bits.result c.size_bits-in-Bits-2.result c.worth-in-Bits.result _ c.in-Bits.ensures.is s (λ e. c.worth-in-Bits.ensures args ks ys n zs rule w a e) c.size_bits-in-Bits.ensures c.size_bits-in-Bits-2.ensures c.one-in-Bits.ensures
 
 pub worth-returns-then-is_zero : goal.worth-returns-then-is_zero
 worth-returns-then-is_zero t c = λ args ks ys n zs rule w a s.
@@ -129,4 +129,4 @@ worth-returns-else-is_zero t c = λ args ks ys n zs rule w a s.
 
 pub worth-returns-in-Binary : goal.worth-returns-in-Binary
 worth-returns-in-Binary t c = λ args ks ys n zs rule w a s.
-    binary_node _ rule _ (view zs c.args.front.state.now c.args.front.next) _ (formula c.in-Binary.x.now) (formula c.in-Binary.y.now) c.in-Binary.op c.worth-a-in-Binary.result c.worth-b.result _ c.in-Binary.ensures.is s (λ e. c.worth-a-in-Binary.ensures args ks ys n zs rule w a e) (λ e. c.worth-b.ensures args ks ys n zs rule w a e) c.two.ensures
+    binary_node _ rule _ (view zs c.args.front.state.now c.args.front.next) _ (formula c.in-Binary.x.now) (formula c.in-Binary.y.now) c.in-Binary.op c.worth-a.result c.worth-b.result _ c.in-Binary.ensures.is s (λ e. c.worth-a.ensures args ks ys n zs rule w a e) (λ e. c.worth-b.ensures args ks ys n zs rule w a e) c.two.ensures
