@@ -10,6 +10,7 @@ use Rattle.nml_lex.proofs.Parts.{never, place}
 use Rattle.nml_grammar.specs.Trees.{IsFloat}
 use Rattle.nml_grammar.proofs.OneReading.{one_place, tree_or_none, one_description}
 use Rattle.nml_refusals.specs.TreeFault.{IsTreeFault}
+use Rattle.nml_refusals.proofs.Told.{told}
 use Rattle.nml_refusals.proofs.TreeFaults.{one_only, none_checked}
 use Rattle.nml_suite.specs.Described.{HasFault, NoTokens, NoTree, Floating, Refused, Spells, IsAccepted, Describes}
 
@@ -46,7 +47,7 @@ one_fault bytes f g (Floating a e h) (Refused t s k) = absurd (no_float_spelled 
 one_fault bytes f g (Refused t s h) (NoTokens b i k) = absurd (never bytes s.is.tokens b s.is.has k)
 one_fault bytes f g (Refused t s h) (NoTree b i k) = absurd (tree_or_none bytes t b s.is k)
 one_fault bytes f g (Refused t s h) (Floating b i k) = absurd (no_float_spelled bytes t b s k)
-one_fault bytes f g (Refused t s h) (Refused u r k) = one_only u f g (subst (λ x. IsTreeFault x f) (one_spelled bytes t u s r) h) k
+one_fault bytes f g (Refused t s h) (Refused u r k) = one_only u (told u) f g (subst (λ x. IsTreeFault x f) (one_spelled bytes t u s r) h) k
 
 -- bytes that are accepted have no fault
 pub no_fault : (bytes : List ℕ) (t : Desc) (f : DescFault) → IsAccepted bytes t → HasFault bytes f → ⊥

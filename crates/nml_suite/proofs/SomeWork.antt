@@ -16,7 +16,7 @@ use Rattle.plain_tools.proofs.Determined.{not_neither}
 use Rattle.nml_suite.specs.Coming.{EndsWith, SumsUp, Summed, Opens, Short, Opened, Accepts, Faulty, Accepted, Simplifies, Other, Plain, AssemblesTo, NotPlain, NoMatch, Words, Loads, NoImage, Loaded, RunsTo, Input, Ran, ComesTo, first_input, made}
 use Rattle.nml_suite.specs.Complete.{Answering, AllAnswer, AreAnswered, ComesOut}
 use Rattle.nml_refusals.proofs.TreeFaults.{checked_if_none}
-use Rattle.nml_refusals.proofs.Summaries.{some_summary}
+use Rattle.nml_refusals.proofs.Told.{told, some_summary}
 use Rattle.nml_tree.specs.Refused.{IsChecked}
 use Rattle.nml_suite.specs.Described.{Spells, NoTokens, NoTree, Floating, Refused, IsAccepted, IsBuilt}
 use Rattle.nml_suite.specs.Form.{Form, Check, Asm, Dis, Run, Cc, Ceval, Demo}
@@ -49,8 +49,9 @@ accepts_tree : (answers : Answering) (k : ℕ) (name bytes : List ℕ) (goes : D
     → ((tree : Desc) → IsAccepted bytes tree → Comes answers k (goes tree)) → (float_places tree ≡ []) ⊎ ((at : ℕ) × IsFloat bytes at) → Comes answers k (Accepts name bytes goes)
 accepts_tree answers k name bytes goes tree is h (inl clear) none =
     let spelled : Spells bytes tree = record { is = is; no_float = clear } in
-    checked_if_none tree (λ f x. none [] _ tt (Faulty f (Refused tree spelled x) (record { last = refl; is = refl })))
-    (λ checked. let accepted : IsAccepted bytes tree = record { spelled = spelled; checked = checked } in h tree accepted (λ asked work a g. none asked work a (Accepted tree accepted g)))
+    let checked = checked_if_none tree (told tree) (λ f x. none [] _ tt (Faulty f (Refused tree spelled x) (record { last = refl; is = refl }))) in
+    let accepted : IsAccepted bytes tree = record { spelled = spelled; checked = checked } in
+    h tree accepted (λ asked work a g. none asked work a (Accepted tree accepted g))
 accepts_tree answers k name bytes goes tree is h (inr float) none = none [] _ tt (Faulty (faults.Float float.0) (Floating float.0 refl float.1) (record { last = refl; is = refl }))
 
 accepts_by : (answers : Answering) (k : ℕ) (name bytes : List ℕ) (goes : Desc → List Asked → Work → Type 0) → ((tree : Desc) → IsAccepted bytes tree → Comes answers k (goes tree))
@@ -70,7 +71,7 @@ simplifies answers k name tree goes h none =
 -- ---- `check`
 
 sums_up : (answers : Answering) (k : ℕ) (tree : Desc) → IsChecked tree → Comes answers k (SumsUp tree)
-sums_up answers k tree checked none = some_summary tree checked (λ count width s. none [] _ tt (Summed count width s (record { last = refl; is = refl })))
+sums_up answers k tree checked none = let s = some_summary tree checked in none [] _ tt (Summed s.0 s.1 s.2 (record { last = refl; is = refl }))
 
 -- ---- `asm`
 
