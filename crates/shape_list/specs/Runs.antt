@@ -1,4 +1,4 @@
--- How many digits stand in a row in a syntax.
+-- For private contracts: how many digits stand in a row in a syntax.
 use Rattle.std.specs.Prelude.{ℕ, List, [], ◌∷◌, ◌++◌}
 use Rattle.nml_tree.specs.Edge.{Flat, Letter, Number, Seam}
 use Rattle.nml_line.specs.Pushed.{HasShortNumbers}

@@ -24,8 +24,9 @@ use std::alloc::Global;
 
 /// All shapes of the description in order: alternatives in the text's order, the leftmost part changing slowest.
 ///
-/// Each is made from its picks alone, in the time that its derivation has rules and its texts have characters. The rule is this project's
-/// own. The one error is want of memory.
+/// Each is made from its picks alone: each rule of its derivation is found once, and each character is copied once for each rule that it
+/// stands in. The rule is this project's own. The one error is want of memory, which is also answered where a rule has over 2^32
+/// alternatives or an instruction as many fields: no memory holds them.
 pub fn all_shapes(alloc: Global, names: &Names<'_>) -> Result<Vec<Shape>, Memory>
     requires { IsFreeBelow 12 names.now }
     ensures { IfOk result (λ shapes. AreAllShapes names.now shapes.items) }
