@@ -1,9 +1,6 @@
 -- The rule of a name, by the first item that declares it.
 use Rattle.std.proofs.Common.{◌≡◌, ℕ, zero, suc, ◌+◌, ◌<◌, ◌≤◌, length, get_or, arith, Bool, true, false, List, [], ◌∷◌, slice_get, Option, Some, None, refl, ap, sym, subst, ◌∙◌, if◌then◌else◌, option_and_then, option_map}
 use Rattle.std.proofs.lemmas.Option.{slice_get-get_or}
-use Rattle.nml_tree.specs.declared.names.Name.{Name}
-use Rattle.nml_tree.specs.declared.tree.TypeExpr.{TypeExpr}
-use Rattle.nml_tree.specs.declared.tree.TypeExpr.TheVariants as type_expr
 use Rattle.nml_tree.specs.declared.tree.PortWord.{PortWord}
 use Rattle.nml_tree.specs.declared.tree.PortWord.TheVariants as port
 use Rattle.nml_tree.specs.declared.tree.Item.{Item}

@@ -1,5 +1,5 @@
 -- What the parameters give, one after the other.
-use Rattle.std.proofs.Common.{◌≡◌, ℕ, ℤ, zero, suc, ◌+◌, ◌<◌, ◌≤◌, Bool, true, false, add-one, List, [], ◌∷◌, ◌++◌, append-nil, append_assoc, map, length, replicate, refl, ap, sym, subst, ◌∙◌, arith, Option, Some, None}
+use Rattle.std.proofs.Common.{◌≡◌, ℕ, ℤ, zero, suc, ◌+◌, ◌≤◌, Bool, true, false, add-one, List, [], ◌∷◌, ◌++◌, append-nil, append_assoc, map, length, replicate, refl, ap, sym, ◌∙◌, arith, Option, Some, None}
 use Rattle.std.specs.Prelude.{slice_get, min, ◌&&◌, nat_le}
 use Rattle.std.proofs.lemmas.Bool.{leb-true}
 use Rattle.std.proofs.lemmas.List.{length-append}
@@ -7,9 +7,8 @@ use Rattle.nk_base.specs.declared.number.Ty.{Ty}
 use Rattle.nk_base.specs.declared.number.Ty.TheVariants as ty
 use Rattle.nk_base.specs.Number.{width_of}
 use Rattle.nml_tree.specs.declared.tree.Par.{Par}
-use Rattle.nml_tree.specs.declared.tree.Desc.{Desc}
 use Rattle.nml_tree.specs.declared.attributes.Template.{Template}
-use Rattle.nml_tree.specs.Derivation.{Derivation, Arguments, Pick, Compose, NoMore, Part, Field, Fill, fields, fields_of, picks_of}
+use Rattle.nml_tree.specs.Derivation.{Derivation, Arguments, Pick, Compose, NoMore, Part, Field, fields, fields_of, picks_of}
 use Rattle.nml_tree.specs.Edge as edge
 use Rattle.nml_tree.specs.Edge.{Flat, flat, flats}
 use Rattle.nml_tree.specs.Image.{bit}
@@ -23,7 +22,6 @@ use Rattle.attr_eval.specs.Walks.{from, Walks, WalksAll}
 use Rattle.attr_eval.proofs.Images.{among}
 use Rattle.attr_eval.proofs.Steps.{from_past, walks_at, field_at}
 use Rattle.nml_known.specs.Known.{told}
-use Rattle.shape_list.specs.declared.text.Glyph.{Glyph}
 use Rattle.shape_list.specs.declared.text.Glyph.TheVariants as glyph
 use Rattle.shape_list.specs.declared.text.Given.{Given}
 use Rattle.shape_list.specs.declared.sketch.Sketch.{Sketch}

@@ -7,3 +7,5 @@ pub mod Fillings
 pub mod Sketches
 pub mod Runs
 pub mod Shaped
+pub mod Strings
+pub mod ImageLengths

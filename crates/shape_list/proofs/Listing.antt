@@ -1,17 +1,16 @@
 -- The list by recursion on the rules has the picks of all shapes, each once and in order.
-use Rattle.std.proofs.Common.{rules, ℕ, zero, suc, ℤ, pos, List, [], ◌∷◌, ◌++◌, ◌≡◌, ◌≤◌, ◌+◌, length, arith, refl, sym, ◌∙◌, ap, subst, Option, Some, None, inl, inr, codes, Contains, Bool, true}
-use Rattle.std.specs.Prelude.{Result, Ok, Err, IfOk, ◌⊎◌, neg_ℤ, ◌≤ℤ◌, ◌<ℤ◌, ◌^◌, ◌-◌}
-use Rattle.std.proofs.Math.Pow.{pow_pos}
+use Rattle.std.proofs.Common.{rules, ℕ, zero, suc, pos, List, [], ◌∷◌, ◌++◌, ◌≡◌, ◌+◌, length, arith, refl, sym, ◌∙◌, ap, subst, Option, Some, None, inl, inr, codes, Contains}
+use Rattle.std.specs.Prelude.{Result, Ok, Err, IfOk, ◌⊎◌}
 use Rattle.nk_base.specs.Number.{InRange}
 use Rattle.nk_base.specs.declared.number.Ty.{Ty}
 use Rattle.nk_base.specs.declared.number.Ty.TheVariants as ty
 use Rattle.nml_tree.specs.declared.tree.Par.{Par}
 use Rattle.nml_tree.specs.declared.tree.Item.{Item}
 use Rattle.nml_tree.specs.declared.tree.Desc.{Desc}
-use Rattle.nml_tree.specs.Table.{Text, Table, Rule, Declared, declared, alternative, Parameter, parameter_of, table, entries, entry}
+use Rattle.nml_tree.specs.Table.{Text, Table, Declared, declared, Parameter, parameter_of, table, entries, entry}
 use Rattle.nml_tree.specs.Derivation.{Derivation, Arguments, Pick, Compose, NoMore, Part, Field, IsDerivation, Fill, picks, picks_of}
 use Rattle.nml_tree.specs.Refused.{IsFreeBelow, By_cycle}
-use Rattle.nml_tree.specs.ShapeList.{Picks, joined, of_alternatives, of_parameter, of_parameters, of_rule, shape_list_within, shape_list}
+use Rattle.nml_tree.specs.ShapeList.{Picks, joined, of_parameter, of_parameters, of_rule, shape_list_within, shape_list}
 use Rattle.nml_tree.specs.Shapes.{AreShapes}
 use Rattle.nml_laws.proofs.ShapeListed.{shape_listed}
 use Rattle.nml_upward.specs.Upward.{AreMade, IsParameter}

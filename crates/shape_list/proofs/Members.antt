@@ -1,5 +1,5 @@
 -- What stands in the lists of picks, and their order.
-use Rattle.std.proofs.Common.{ℕ, zero, suc, List, [], ◌∷◌, ◌++◌, map, ◌≡◌, ◌<◌, ◌+◌, arith, refl, ap, subst, Some, inl, inr, Contains, length}
+use Rattle.std.proofs.Common.{ℕ, zero, suc, List, [], ◌∷◌, ◌++◌, map, ◌≡◌, ◌<◌, ◌+◌, arith, refl, subst, Some, inl, inr, Contains}
 use Rattle.std.specs.Prelude.{◌⊎◌, Bool, true, false, ◌||◌, ◌&&◌, ◌==◌, nat_lt, IsTrue, slice_get}
 use Rattle.std.specs.List.{AllByRecursion}
 use Rattle.std.proofs.lemmas.Bool.{eq-eqb, lt-ltb}

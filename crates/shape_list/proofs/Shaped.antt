@@ -1,15 +1,15 @@
 -- Shapes that were made of their picks, so far.
-use Rattle.std.proofs.Common.{◌≡◌, ℕ, zero, suc, ◌+◌, ◌<◌, ◌≤◌, Bool, true, false, List, [], ◌∷◌, ◌++◌, map, take, drop, length, get_or, reverse, refl, ap, sym, subst, ◌∙◌, arith, cond, Contains, codes, Some}
+use Rattle.std.proofs.Common.{◌≡◌, ℕ, zero, suc, ◌+◌, ◌<◌, ◌≤◌, Bool, List, [], ◌∷◌, ◌++◌, map, take, drop, length, get_or, reverse, refl, ap, sym, subst, ◌∙◌, arith, cond, Contains, codes, Some}
 use Rattle.std.specs.Prelude.{not, slice_get, Result, Ok, Err, IfOk}
 use Rattle.std.specs.List.{prefix_len, AllByRecursion}
-use Rattle.std.proofs.lemmas.List.{take_all}
+use Rattle.std.proofs.lemmas.List.{take_all, drop_more}
 use Rattle.std.proofs.Math.Seq.{take-suc}
 use Rattle.indexmap.proofs.ReorderLemmas.{map-reverse}
 use Rattle.nk_base.specs.declared.number.Ty.{Ty}
 use Rattle.nml_tree.specs.declared.tree.Desc.{Desc}
 use Rattle.nml_tree.specs.Derivation.{Derivation, picks, fields}
 use Rattle.nml_tree.specs.Attribute.{number_of}
-use Rattle.nml_tree.specs.Edge.{flat}
+use Rattle.nml_tree.specs.Edge.{Flat, flat}
 use Rattle.nml_tree.specs.Outline as outline
 use Rattle.nml_tree.specs.Outline.{OutlineBit, outline_bits, types, is_free, low, template_behind}
 use Rattle.nml_tree.specs.Refused.{IsFreeBelow}
@@ -19,13 +19,16 @@ use Rattle.nml_tree.specs.Valid.{IsRoot}
 use Rattle.nml_shape.specs.declared.shape.FieldAt.{FieldAt}
 use Rattle.nml_shape.specs.declared.shape.Shape.{Shape}
 use Rattle.nml_shape.specs.Shown.{AreAllShapes, IsShapeOf, token_of, picks_of, types_of}
-use Rattle.attr_eval.proofs.Whole.{walks_whole}
+use Rattle.attr_eval.proofs.Whole.{walks_whole, narrow_image}
 use Rattle.shape_list.specs.declared.text.Glyph.{Glyph}
 use Rattle.shape_list.specs.declared.sketch.Sketch.{Sketch}
 use Rattle.shape_list.specs.Drawn.{bit_of, flat_of, Draws}
-use Rattle.shape_list.specs.Fixed.{is_other, low_in, fields_at}
+use Rattle.shape_list.specs.Fixed.{low_in, fields_at}
 use Rattle.shape_list.proofs.Texts.{map_append}
+use Rattle.shape_list.specs.Runs.{AreShort}
+use Rattle.shape_list.proofs.ImageLengths.{image_length, map_length}
 use Rattle.shape_list.proofs.Sketches.{IsDrawn}
+use Rattle.shape_list.proofs.Strings.{syntax_short}
 
 -- the shape is that of each derivation with its picks
 abbrev pub IsShape : Desc → Shape → Type 0
@@ -100,6 +103,25 @@ shape_is x s k draws picked mask value fields tokens = record {
   template_is = tokens ∙ ap (template_behind []) draws.syntax_is;
   picks_are = picked;
 }
+
+-- and so it has 64 bits at most, and its digits are few
+pub root_few : (d : Desc) (name : List ℕ) (n : ℕ) (ps : List ℕ) (s : Sketch) (left : List ℕ) → IsFreeBelow 12 d → name ≡ codes "instruction" → n ≡ length d.items → IsDrawn (table d) name n ps 0 s left
+    → (x : Derivation) × IsRoot (table d) x × (picks x ≡ ps) → length s.image.items ≤ 64
+root_few d name n ps s left free is many drawn h =
+    let draws = root_drawn d name n ps s left free is many drawn h.0 h.1 (sym h.2) in
+    let l = sym (map_length bit_of s.image.items) ∙ ap length draws.image_is ∙ image_length h.0 0 in
+    let low = narrow_image d free h.0 h.1 in
+    omega (arith, l, low)
+
+pub root_short : (d : Desc) (name : List ℕ) (n : ℕ) (ps : List ℕ) (s : Sketch) (left : List ℕ) → IsFreeBelow 12 d → name ≡ codes "instruction" → n ≡ length d.items → IsDrawn (table d) name n ps 0 s left
+    → (x : Derivation) × IsRoot (table d) x × (picks x ≡ ps) → AreShort [] (map flat_of s.syntax.items)
+root_short d name n ps s left free is many drawn h =
+    let draws = root_drawn d name n ps s left free is many drawn h.0 h.1 (sym h.2) in
+    subst (AreShort []) (sym draws.syntax_is) (syntax_short d h.0 free h.1)
+
+-- a glyph more of a syntax whose digits are few
+pub glyph_short : (letters : List ℕ) (gs : List Glyph) (i : ℕ) (g : Glyph) → i < length gs → AreShort letters (map flat_of (drop i gs)) → (rest : List Flat) × AreShort letters (flat_of (get_or gs i g) ∷ rest)
+glyph_short letters gs i g less h = (map flat_of (drop (i + 1) gs), subst (λ xs. AreShort letters (map flat_of xs)) (drop_more gs i g less) h)
 
 pub if_drawn : {E : Type 0} (d : Desc) (name : List ℕ) (n : ℕ) (ps : List ℕ) (k : Sketch) (left : List ℕ) → IsFreeBelow 12 d → name ≡ codes "instruction" → n ≡ length d.items → IsDrawn (table d) name n ps 0 k left
     → (r : Result Shape E) → IfOk r (λ s. (x : Derivation) → Draws k (types x) (outline_bits 0 x) (flat 0 x) → ps ≡ picks x → IsShapeOf x s) → IfOk r (λ s. (x : Derivation) → IsRoot (table d) x → ps ≡ picks x → IsShapeOf x s)

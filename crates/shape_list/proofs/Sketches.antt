@@ -1,12 +1,11 @@
 -- A derivation in outline, by what its rule is made of.
-use Rattle.std.proofs.Common.{◌≡◌, ℕ, ℤ, ◌+◌, ◌-◌, Bool, true, false, List, [], ◌∷◌, ◌++◌, refl, ap, sym, subst, ◌∙◌, arith, Option, Some, None}
-use Rattle.std.specs.Prelude.{slice_get, option_and_then, Result, Ok, Err, IfOk}
-use Rattle.nk_base.specs.declared.number.Ty.{Ty}
+use Rattle.std.proofs.Common.{◌≡◌, ℕ, ℤ, ◌-◌, Bool, false, List, ◌∷◌, ◌++◌, refl, sym, subst, ◌∙◌, Option, Some, None}
+use Rattle.std.specs.Prelude.{slice_get, Result, Ok, Err, IfOk}
 use Rattle.nml_tree.specs.declared.tree.OrRule.{OrRule}
 use Rattle.nml_tree.specs.declared.tree.Pars.{Pars}
 use Rattle.nml_tree.specs.declared.attributes.Attrs.{Attrs}
 use Rattle.nml_tree.specs.Formula.{Formula}
-use Rattle.nml_tree.specs.Derivation.{Derivation, Arguments, Pick, Compose, IsDerivation, picks}
+use Rattle.nml_tree.specs.Derivation.{Derivation, Arguments, Pick, Compose, picks}
 use Rattle.nml_tree.specs.Edge as edge
 use Rattle.nml_tree.specs.Edge.{flat, flats}
 use Rattle.nml_tree.specs.Image.{bit}

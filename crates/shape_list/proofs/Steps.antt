@@ -1,5 +1,5 @@
 -- A step of the lists that the code makes.
-use Rattle.std.proofs.Common.{ℕ, zero, suc, List, [], ◌∷◌, ◌++◌, map, ◌≡◌, ◌<◌, ◌≤◌, ◌+◌, ◌-◌, length, get_or, drop, arith, refl, sym, ◌∙◌, ap, subst, Option, Some, None, append_assoc, append-nil, Bool}
+use Rattle.std.proofs.Common.{ℕ, zero, suc, List, [], ◌∷◌, ◌++◌, map, ◌≡◌, ◌<◌, ◌≤◌, ◌+◌, ◌-◌, length, get_or, drop, arith, refl, sym, ◌∙◌, ap, Option, Some, None, append_assoc, append-nil, Bool}
 use Rattle.std.specs.Prelude.{Result, Ok, Err, IfOk}
 use Rattle.std.proofs.lemmas.List.{drop_more, drop_all}
 use Rattle.nml_tree.specs.declared.tree.Par.{Par}
@@ -8,7 +8,7 @@ use Rattle.nml_tree.specs.declared.tree.OrRule.{OrRule}
 use Rattle.nml_tree.specs.declared.attributes.Attrs.{Attrs}
 use Rattle.nml_tree.specs.Formula.{Formula}
 use Rattle.nml_tree.specs.Table.{Text, Table, Declared, declared, Parameter, parameter_of, pars_of, rule_of}
-use Rattle.nml_tree.specs.ShapeList.{Picks, joined, of_alternatives, of_parameter, of_parameters, of_rule, shape_list_within}
+use Rattle.nml_tree.specs.ShapeList.{Picks, joined, of_alternatives, of_parameter, of_parameters, shape_list_within}
 use Rattle.shape_list.specs.Body.{alternatives_of}
 
 pub within_or : (t : Table) (n : ℕ) (name : Text) (r : OrRule) → 0 < n → (mode : Bool) × (declared t name ≡ Some (Declared.Or mode (alternatives_of r))) → of_alternatives (shape_list_within t (n - 1)) 0 (alternatives_of r) ≡ shape_list_within t n name

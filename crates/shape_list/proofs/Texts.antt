@@ -1,5 +1,5 @@
 -- A text whose parts are seen as something else; what parameters give by their names.
-use Rattle.std.proofs.Common.{◌≡◌, ℕ, ◌+◌, ◌<◌, ◌≤◌, Bool, true, false, cond, List, [], ◌∷◌, ◌++◌, append-nil, map, get_or, drop, length, Option, Some, None, refl, ap, sym, ◌∙◌, arith}
+use Rattle.std.proofs.Common.{◌≡◌, ℕ, ◌+◌, ◌<◌, ◌≤◌, Bool, true, false, cond, List, [], ◌∷◌, ◌++◌, map, get_or, drop, length, Some, refl, ap, ◌∙◌}
 use Rattle.std.specs.Prelude.{unwrap_or}
 use Rattle.std.specs.Map.{lookup}
 use Rattle.std.proofs.lemmas.List.{drop_more, drop_all}
@@ -10,7 +10,6 @@ use Rattle.nml_tree.specs.declared.attributes.Template.TheVariants as template
 use Rattle.nml_tree.specs.Attribute.{FormatPiece, Letter, Directive, pieces}
 use Rattle.nml_tree.specs.Table.{Text}
 use Rattle.nml_tree.specs.Template.{given, put_in, text_of}
-use Rattle.shape_list.specs.declared.text.Glyph.{Glyph}
 use Rattle.shape_list.specs.declared.text.Given.{Given}
 use Rattle.shape_list.specs.Drawn.{bit_of, flat_of, named, bits_named, flats_named}
 
@@ -23,7 +22,7 @@ map_map f g [] = refl
 map_map f g (x ∷ xs) = ap (λ ys. f (g x) ∷ ys) (map_map f g xs)
 
 -- what each parameter gives, seen by f
-abbrev seen : {A B : Type 0} → (A → B) → List (Text × List A) → List (Text × List B)
+abbrev pub seen : {A B : Type 0} → (A → B) → List (Text × List A) → List (Text × List B)
 seen f ps = map (λ p. (p.0, map f p.1)) ps
 
 seen_given : {A B : Type 0} (f : A → B) (ps : List (Text × List A)) (name : Text) → map f (given ps name) ≡ given (seen f ps) name

@@ -1,4 +1,4 @@
--- What a rule is made of.
+-- For private contracts: what a rule is made of.
 use Rattle.std.specs.Prelude.{◌≡◌, Bool, false, List, ◌∷◌, map, Option, Some}
 use Rattle.nml_tree.specs.declared.tree.OrRule.{OrRule}
 use Rattle.nml_tree.specs.Formula.{Formula}

@@ -1,4 +1,4 @@
--- What a derivation in outline is, as the code draws it.
+-- For private contracts: what a derivation in outline is, as the code draws it.
 use Rattle.std.specs.Prelude.{ℕ, ◌≡◌, false, List, [], ◌∷◌, ◌++◌, map}
 use Rattle.nk_base.specs.declared.number.Ty.{Ty}
 use Rattle.nml_tree.specs.declared.attributes.Arg.{Arg}

@@ -1,4 +1,4 @@
--- The places of fields in an image.
+-- For private contracts: the places of fields in an image.
 use Rattle.std.specs.Prelude.{ℕ, ◌+◌, not, Bool, List, [], ◌∷◌, reverse}
 use Rattle.std.specs.List.{prefix_len}
 use Rattle.nk_base.specs.declared.number.Ty.{Ty}

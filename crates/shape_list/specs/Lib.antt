@@ -1,3 +1,4 @@
 pub mod Body
 pub mod Drawn
 pub mod Fixed
+pub mod Runs

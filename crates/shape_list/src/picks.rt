@@ -16,8 +16,8 @@ use std::alloc::Global;
 
 /// The picks of all shapes of `instruction`, alternatives in the text's order, the leftmost part changing slowest.
 ///
-/// It takes as long as all of them have rules, picked from the root on. The rule is this project's own. The one error is want of memory,
-/// which is also answered where a rule has over 2^32 alternatives.
+/// A rule is listed anew wherever it is named, so the time is that of all rules of all derivations, whatever the text's length. The rule is
+/// this project's own. The one error is want of memory, which is also answered where a rule has over 2^32 alternatives.
 pub fn all_picks(alloc: Global, names: &Names<'_>) -> Result<Vec<Items<u32>>, Memory>
     requires { IsFreeBelow 12 names.now }
     ensures { IfOk result (λ all. AreShapes (table names.now) all.items) }

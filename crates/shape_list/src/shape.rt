@@ -1,17 +1,16 @@
 //! All shapes, each made of its picks.
 
-ghost use Rattle.std.specs.Prelude.{◌≡◌, ◌++◌, ◌∷◌, [], List, codes, map, IfOk, OnOk, IsTrue};
-ghost use Rattle.nml_line.specs.Pushed.{HasShortNumbers};
+ghost use Rattle.std.specs.Prelude.{◌≡◌, ◌≤◌, ◌++◌, ◌∷◌, [], List, codes, length, map, IfOk, OnOk};
 ghost use Rattle.nml_shape.specs.Shown.{AreAllShapes, IsShapeOf, token_of};
 ghost use Rattle.nml_tree.specs.Derivation as derivation;
 ghost use Rattle.nml_tree.specs.Derivation.{Derivation};
 ghost use Rattle.nml_tree.specs.Edge.{Flat, flat};
-ghost use Rattle.nml_tree.specs.LineToken.{line_tokens};
-ghost use Rattle.nml_tree.specs.Outline.{Written, outline_bits, template_behind, types};
+ghost use Rattle.nml_tree.specs.Outline.{outline_bits, template_behind, types};
 ghost use Rattle.nml_tree.specs.Refused.{IsFreeBelow};
 ghost use Rattle.nml_tree.specs.Table.{table};
 ghost use Rattle.nml_tree.specs.Valid.{IsRoot};
 ghost use Rattle.shape_list.specs.Drawn.{Draws, flat_of};
+ghost use Rattle.shape_list.specs.Runs.{AreShort};
 
 use crate::fixed::{fixed_bits, places};
 use crate::picks::all_picks;
@@ -25,8 +24,9 @@ use std::alloc::Global;
 
 /// All shapes of the description in order: alternatives in the text's order, the leftmost part changing slowest.
 ///
-/// Each is made from its picks alone, in the time that its derivation has rules and its texts have characters. The rule is this project's
-/// own. The one error is want of memory.
+/// Each is made from its picks alone: each rule of its derivation is found once, and each character is copied once for each rule that it
+/// stands in. The rule is this project's own. The one error is want of memory, which is also answered where a rule has over 2^32
+/// alternatives or an instruction as many fields: no memory holds them.
 pub fn all_shapes(alloc: Global, names: &Names<'_>) -> Result<Vec<Shape>, Memory>
     requires { IsFreeBelow 12 names.now }
     ensures { IfOk result (λ shapes. AreAllShapes names.now shapes.items) }
@@ -45,6 +45,7 @@ pub fn all_shapes(alloc: Global, names: &Names<'_>) -> Result<Vec<Shape>, Memory
 fn shape_at(alloc: Global, names: &Names<'_>, root: &Text, picks: &[u32]) -> Result<Shape, Memory>
     requires free { IsFreeBelow 12 names.now }
     requires root { root.now ≡ codes "instruction" }
+    requires some { (x : Derivation) × IsRoot (table names.now) x × (derivation.picks x ≡ picks.now) }
     ensures picks { IfOk result (λ s. s.picks.items ≡ picks.now) }
     ensures shape { IfOk result (λ s. (x : Derivation) → IsRoot (table names.now) x → picks.now ≡ derivation.picks x → IsShapeOf x s) }
 {
@@ -54,13 +55,12 @@ fn shape_at(alloc: Global, names: &Names<'_>, root: &Text, picks: &[u32]) -> Res
 
 /// The shape of an outline.
 fn shape_of(alloc: Global, sketch: &Sketch, picks: &[u32]) -> Result<Shape, Memory>
+    requires few { length sketch.now.image.items ≤ 64 }
+    requires short { AreShort [] (map flat_of sketch.now.syntax.items) }
     ensures picks { IfOk result (λ s. s.picks.items ≡ picks.now) }
     ensures shape { IfOk result (λ s. (x : Derivation) → Draws sketch.now (types x) (outline_bits 0 x) (flat 0 x) → picks.now ≡ derivation.picks x → IsShapeOf x s) }
 {
     let image = sketch.image.as_slice();
-    if image.len() > 64 {
-        return Err(Memory);
-    }
     let bits = fixed_bits(image);
     Ok(Shape {
         mask: bits.mask,
@@ -73,6 +73,7 @@ fn shape_of(alloc: Global, sketch: &Sketch, picks: &[u32]) -> Result<Shape, Memo
 
 /// The tokens of a syntax.
 fn template(alloc: Global, syntax: &[Glyph]) -> Result<Vec<Piece>, Memory>
+    requires { AreShort [] (map flat_of syntax.now) }
     ensures { IfOk result (λ v. map token_of v.items ≡ template_behind [] (map flat_of syntax.now)) }
 {
     let mut letters = Text::new(alloc);
@@ -80,7 +81,7 @@ fn template(alloc: Global, syntax: &[Glyph]) -> Result<Vec<Piece>, Memory>
     for g in syntax {
         push_glyph(alloc, *g, &mut letters, &mut tokens)?;
     }
-    push_letters(alloc, &letters, &mut tokens)?;
+    push_tokens(alloc, letters.as_bytes(), &mut tokens)?;
     Ok(tokens)
 }
 
@@ -91,7 +92,9 @@ fn push_glyph(
     letters: &mut Text,
     tokens: &mut Vec<Piece>,
 ) -> Result<(), Memory>
-    ensures { OnOk result ((rest : List Flat) → map token_of tokens.new.items ++ template_behind letters.new rest ≡ map token_of tokens.old.items ++ template_behind letters.old (flat_of g ∷ rest)) }
+    requires { (rest : List Flat) × AreShort letters.old (flat_of g ∷ rest) }
+    ensures tokens { OnOk result ((rest : List Flat) → map token_of tokens.new.items ++ template_behind letters.new rest ≡ map token_of tokens.old.items ++ template_behind letters.old (flat_of g ∷ rest)) }
+    ensures short { OnOk result ((rest : List Flat) → AreShort letters.old (flat_of g ∷ rest) → AreShort letters.new rest) }
 {
     match g {
         Glyph::Letter(c) => {
@@ -100,38 +103,10 @@ fn push_glyph(
         }
         Glyph::Seam => Ok(()),
         Glyph::Field(n) => {
-            push_letters(alloc, letters, tokens)?;
+            push_tokens(alloc, letters.as_bytes(), tokens)?;
             tokens.push(Piece::Field(n))?;
             *letters = Text::new(alloc);
             Ok(())
         }
     }
-}
-
-/// Appends the tokens of these characters.
-fn push_letters(alloc: Global, letters: &Text, tokens: &mut Vec<Piece>) -> Result<(), Memory>
-    ensures { OnOk result (map token_of tokens.new.items ≡ map token_of tokens.old.items ++ map Written (line_tokens letters.now)) }
-{
-    if !has_short_numbers(letters.as_bytes()) {
-        return Err(Memory);
-    }
-    push_tokens(alloc, letters.as_bytes(), tokens)?;
-    Ok(())
-}
-
-/// Whether no more than 38 digits stand in a row.
-fn has_short_numbers(text: &[u8]) -> bool
-    ensures { IsTrue result → HasShortNumbers text.now }
-{
-    let mut run: u32 = 0;
-    for c in text {
-        if !c.is_ascii_digit() {
-            run = 0;
-        } else if run < 38 {
-            run += 1;
-        } else {
-            return false;
-        }
-    }
-    true
 }

@@ -1,6 +1,4 @@
-use Rattle.std.proofs.Common.{◌∙◌, sym, ap, subst, arith, [], ◌∷◌, ◌++◌, ◌-◌, ◌<◌, length}
-use Rattle.nml_tree.specs.Table.{table}
-use Rattle.nml_tree.specs.ShapeList.{shape_list_within}
+use Rattle.std.proofs.Common.{◌∙◌, ap, arith, [], ◌∷◌, ◌++◌, ◌-◌, ◌<◌, length}
 use Rattle.shape_list.proofs.Steps.{within_or, within_and, if_same, field_first, none_behind, one_before, whole_list}
 use Rattle.shape_list.proofs.picks.+list.Goals as goal
 

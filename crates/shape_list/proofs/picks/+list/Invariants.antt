@@ -1,4 +1,4 @@
-use Rattle.std.proofs.Common.{◌≡◌, ◌≤◌, ◌++◌, ◌∷◌, ◌*◌, ◌+◌, drop, length, map}
+use Rattle.std.proofs.Common.{◌≡◌, ◌++◌, ◌*◌, ◌+◌, drop, map}
 use Rattle.nml_tree.specs.ShapeList.{of_alternatives, of_parameters, shape_list_within}
 use Rattle.nml_tree.specs.Table.{table}
 use Rattle.shape_list.specs.Body.{alternatives_of}

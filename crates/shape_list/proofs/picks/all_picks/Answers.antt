@@ -1,4 +1,4 @@
-use Rattle.std.proofs.Common.{◌∙◌, sym, ap, length}
+use Rattle.std.proofs.Common.{◌∙◌, ap, length}
 use Rattle.shape_list.proofs.Listing.{if_all}
 use Rattle.shape_list.proofs.picks.all_picks.Goals as goal
 

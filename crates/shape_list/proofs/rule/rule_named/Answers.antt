@@ -1,4 +1,3 @@
-use Rattle.std.proofs.Common.{◌∙◌, sym, ap}
 use Rattle.shape_list.proofs.Bodies.{no_number, numbered_body, past_items}
 use Rattle.shape_list.proofs.rule.rule_named.Goals as goal
 

@@ -1,4 +1,4 @@
-use Rattle.std.proofs.Common.{◌∙◌, sym, ap, map, []}
+use Rattle.std.proofs.Common.{◌∙◌, ap, map, []}
 use Rattle.nml_tree.specs.Attribute.{number_of}
 use Rattle.nml_tree.specs.Outline as outline
 use Rattle.nml_tree.specs.Outline.{template_behind}

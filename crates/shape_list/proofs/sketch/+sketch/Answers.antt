@@ -1,7 +1,5 @@
-use Rattle.std.proofs.Common.{◌≡◌, ◌+◌, ◌∷◌, ◌++◌, [], length, sym, ◌∙◌, ap, subst, arith, Some, add-one, refl}
-use Rattle.attr_eval.specs.Walks.{Walks, from}
-use Rattle.attr_eval.proofs.Steps.{walks_at, field_at}
-use Rattle.nml_tree.specs.Derivation.{picks_of, fields_of}
+use Rattle.std.proofs.Common.{◌≡◌, ◌+◌, ◌∷◌, ◌++◌, [], length, sym, ◌∙◌, ap, subst, arith, Some, refl}
+use Rattle.attr_eval.specs.Walks.{Walks}
 use Rattle.nml_tree.specs.Edge as edge
 use Rattle.nml_tree.specs.Edge.{flat}
 use Rattle.nml_tree.specs.Outline.{outline_bits, types}

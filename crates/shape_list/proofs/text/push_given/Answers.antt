@@ -1,6 +1,6 @@
 use Rattle.nk_base.specs.Text.{text_eq}
 use Rattle.std.proofs.Common.{true, ◌≡◌, ◌∙◌, sym, ap, append-nil, arith, ◌++◌}
-use Rattle.shape_list.proofs.Texts.{found_given, none_given, other_given}
+use Rattle.shape_list.proofs.Texts.{found_given, none_given}
 use Rattle.shape_list.proofs.text.push_given.Goals as goal
 
 pub returns-then-eq : goal.returns-then-eq
