@@ -1,0 +1,5 @@
+mod Members
+mod Greatest
+mod Counted
+mod RootRule
+mod Pass
