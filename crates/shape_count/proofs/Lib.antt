@@ -3,3 +3,4 @@ mod Greatest
 mod Counted
 mod RootRule
 mod Pass
+mod Written

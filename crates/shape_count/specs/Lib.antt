@@ -1,2 +1,3 @@
 pub mod Tally
 pub mod Tallies
+pub mod Sizes

@@ -4,6 +4,8 @@
 mod pars;
 mod root;
 mod rules;
+mod count;
+mod scope;
 mod tally;
 
 pub use rules::tally_shapes;
