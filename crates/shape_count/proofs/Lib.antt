@@ -4,3 +4,6 @@ mod Counted
 mod RootRule
 mod Pass
 mod Written
+mod Places
+mod Targets
+mod Own

@@ -42,6 +42,22 @@ bump_dot (c ∷ cs) (y ∷ zs) (suc i) z long h =
 pub bumped_long : (cs : List ℕ) (i n : ℕ) → length cs ≡ n → length (bumped cs i) ≡ n
 bumped_long cs i n h = length-set cs i (plus (unwrap_or (slice_get cs i) 0) 1) ∙ h
 
+-- a term that may be assigned
+abbrev pub IsTarget : Term → Type 0
+IsTarget (Cell n i) = Unit {0}
+IsTarget (Trn n) = Unit {0}
+IsTarget Term.Out = Unit {0}
+IsTarget _ = ⊥
+
+-- each place of statements is
+abbrev pub AreTargets : Table → Scope → Block → Type 0
+AreTargets t scope block.Done = Unit {0}
+AreTargets t scope (block.Assign n i at e semicolon rest) = IsTarget (reference t scope n.text (index_term t scope i)) × AreTargets t scope rest
+AreTargets t scope (block.Part n dot at semicolon rest) = AreTargets t scope rest
+AreTargets t scope (block.Halt at p e q semicolon rest) = AreTargets t scope rest
+AreTargets t scope (block.If at c b xs end semicolon rest) = AreTargets t scope xs × AreTargets t scope rest
+AreTargets t scope (block.IfElse at c b xs g ys end semicolon rest) = AreTargets t scope xs × AreTargets t scope ys × AreTargets t scope rest
+
 module _ (t : Table) (st : List (ℕ × Ty)) (scope : Scope) (f : Text → Found) (zs ys : List ℕ) where
   -- a name is as large as this, whatever index it has
   abbrev pub Means : Found → (Term → ℕ) → Type 0
@@ -120,21 +136,6 @@ module _ (t : Table) (st : List (ℕ × Ty)) (scope : Scope) (f : Text → Found
   size_of_place k n None cs h = name_size (f n.text) _ (k.means n.text) (Term.Number (pos 0)) 1 cs cs h (omega arith)
   size_of_place k n (Some (p, i, q)) cs h = name_size (f n.text) _ (k.means n.text) (term t scope i) (own f i) (mentioned f i cs) cs h (size_of_term k i cs h)
 
-  -- a term that may be assigned
-  abbrev pub IsTarget : Term → Type 0
-  IsTarget (Cell n i) = Unit {0}
-  IsTarget (Trn n) = Unit {0}
-  IsTarget Term.Out = Unit {0}
-  IsTarget _ = ⊥
-
-  -- each place of statements is
-  abbrev pub AreTargets : Block → Type 0
-  AreTargets block.Done = Unit {0}
-  AreTargets (block.Assign n i at e semicolon rest) = IsTarget (reference t scope n.text (index_term t scope i)) × AreTargets rest
-  AreTargets (block.Part n dot at semicolon rest) = AreTargets rest
-  AreTargets (block.Halt at p e q semicolon rest) = AreTargets rest
-  AreTargets (block.If at c b xs end semicolon rest) = AreTargets xs × AreTargets rest
-  AreTargets (block.IfElse at c b xs g ys end semicolon rest) = AreTargets xs × AreTargets ys × AreTargets rest
 
   size_assigned : (p e : Term) (rest : Act) → IsTarget p → act_size st (assigned p e rest) ≡ 1 + term_size st p + term_size st e + act_size st rest
   size_assigned (Cell n i) e rest h = refl
@@ -182,7 +183,7 @@ module _ (t : Table) (st : List (ℕ × Ty)) (scope : Scope) (f : Text → Found
   act_dot found_as.Leaf a h ks long = let e : act_size st (action_of a) ≡ 0 = ap (act_size st) h in omega (arith, e)
 
   -- statements
-  pub size_of_block : Known → (b : Block) (total : ℕ) (cs ks : List ℕ) → AreTargets b → length cs ≡ length zs → length ks ≡ length ys
+  pub size_of_block : Known → (b : Block) (total : ℕ) (cs ks : List ℕ) → AreTargets t scope b → length cs ≡ length zs → length ks ≡ length ys
       → counted (with_block f b total + dot (block_mentioned f b cs) zs + dot (acted f b ks) ys) ≡ counted (total + dot cs zs + dot ks ys + act_size st (act t scope b))
   size_of_block k block.Done total cs ks right h l = omega arith
   size_of_block k (block.Assign n i at e semicolon rest) total cs ks right h l =

@@ -6,6 +6,7 @@ mod root;
 mod rules;
 mod count;
 mod scope;
+mod summary;
 mod tally;
 
 pub use rules::tally_shapes;

@@ -21,6 +21,7 @@ pub enum Found {
 }
 
 /// The names of a description, and those of a rule's parameters with their places.
+#[derive(Clone, Copy)]
 pub struct Scope<'a> {
     pub names: &'a Names<'a>,
     pub places: &'a IndexMap<Text, usize>,
