@@ -304,5 +304,5 @@ module _ (t : Table) (a : Text) (rule : Rule) (given : Par → Tally) (is : decl
             let e = nodes_sum given (tally 1 1) rule.pars in
             let f : counted (1 + best_sum (weights given rule.pars)) ≡ (with_parameters given (tally 1 1) rule.pars).nodes = omega (arith, small, e) in
             subst (λ n. IsGreatest (IsDerivation t a) nodes n) f
-            (and_greatest t a rule nodes 1 (weights given rule.pars) is (pars_most t given rule.pars each) (λ args h. ap (λ n. 1 + n) (nodes_comes given t rule.pars args h)));
+            (and_greatest t a rule nodes 1 (weights given rule.pars) is (pars_most t given rule.pars each) (λ args h. ap (λ n. counted (1 + n)) (nodes_comes given t rule.pars args h)));
       }

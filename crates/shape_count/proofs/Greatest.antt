@@ -48,10 +48,10 @@ most_bound_all : (v : Text → ℕ) (n : Text) (ns : List Text) (b : Text) → C
 most_bound_all v n ns b c = let e : max (v n) (v n) ≡ v n = omega arith in subst (λ m. v b ≤ most_of v m ns) e (most_bound v (v n) (n ∷ ns) b c)
 
 -- it is one of them
-abbrev IsOne : (Text → ℕ) → ℕ → List Text → ℕ → Type 0
+abbrev pub IsOne : (Text → ℕ) → ℕ → List Text → ℕ → Type 0
 IsOne v m ns r = (r ≡ m) ⊎ ((b : Text) × Contains ns b × (v b ≡ r))
 
-most_is : (v : Text → ℕ) (m : ℕ) (ns : List Text) → IsOne v m ns (most_of v m ns)
+pub most_is : (v : Text → ℕ) (m : ℕ) (ns : List Text) → IsOne v m ns (most_of v m ns)
 most_is v m [] = inl refl
 most_is v m (n ∷ ns) = elim (most_is v (max m (v n)) ns) [
   | inl e ↦ elim (cases_lt m (v n)) [
@@ -164,7 +164,7 @@ pub fill_greatest : (t : Table) (pars : List Par) (ws : List Weigh) → AreParGr
 fill_greatest t pars ws right = record { bound = λ args h. fill_bound args t pars ws right h; reached = fill_reached t pars ws right }
 
 -- of an and-rule
-module _ (t : Table) (a : Text) (rule : Rule) (f : Derivation → ℕ) (own : ℕ) (ws : List Weigh) (is : declared t a ≡ Some (Declared.And rule)) (right : AreParGreatest t rule.pars ws) (comes : (args : Arguments) → Fill t rule.pars args → f (Compose rule args) ≡ own + arg_sum ws args) where
+module _ (t : Table) (a : Text) (rule : Rule) (f : Derivation → ℕ) (own : ℕ) (ws : List Weigh) (is : declared t a ≡ Some (Declared.And rule)) (right : AreParGreatest t rule.pars ws) (comes : (args : Arguments) → Fill t rule.pars args → counted (f (Compose rule args)) ≡ counted (own + arg_sum ws args)) where
   and_bound : (x : Derivation) → IsDerivation t a x → counted (f x) ≤ counted (own + best_sum ws)
   and_bound (Pick n x) h = absurd cc
   and_bound (Compose other args) h =
@@ -172,7 +172,7 @@ module _ (t : Table) (a : Text) (rule : Rule) (f : Derivation → ℕ) (own : �
       let same : other ≡ rule = cc in
       let fill = subst (λ r. Fill t r.pars args) same h.1 in
       let b = fill_bound args t rule.pars ws right fill in
-      let c : f (Compose other args) ≡ own + arg_sum ws args = ap (λ r. f (Compose r args)) same ∙ comes args fill in
+      let c : counted (f (Compose other args)) ≡ counted (own + arg_sum ws args) = ap (λ r. counted (f (Compose r args))) same ∙ comes args fill in
       omega (arith, b, c)
 
   pub and_greatest : IsGreatest (IsDerivation t a) f (counted (own + best_sum ws))

@@ -7,3 +7,4 @@ mod Written
 mod Places
 mod Targets
 mod Own
+mod Bests

@@ -121,7 +121,7 @@ known d rule args n fill =
     let t = table d in
     let scope = arguments t n args in
     let at : (name : Text) → StandsAt (storages t) 0 (scope_values (storages t) scope) (scope_acts (storages t) scope) (lookup (text_eq name) (numbered 0 (par_names rule.pars))) (lookup (text_eq name) scope) = (λ name.
-        subst (λ ns. StandsAt (storages t) 0 (scope_values (storages t) scope) (scope_acts (storages t) scope) (lookup (text_eq name) (numbered 0 ns)) (lookup (text_eq name) scope)) (names_filled t args rule.pars n fill) (stands_at (storages t) scope 0 name)) in
+    subst (λ ns. StandsAt (storages t) 0 (scope_values (storages t) scope) (scope_acts (storages t) scope) (lookup (text_eq name) (numbered 0 ns)) (lookup (text_eq name) scope)) (names_filled t args rule.pars n fill) (stands_at (storages t) scope 0 name)) in
     record {
       means = λ name. name_means t (scope_values (storages t) scope) (scope_acts (storages t) scope) scope (all_numbered d).0 (rule_finds d rule) name _ _ (at name);
       acts = λ name. name_acts t (scope_values (storages t) scope) (scope_acts (storages t) scope) scope (all_numbered d).0 (rule_finds d rule) name _ _ (at name);

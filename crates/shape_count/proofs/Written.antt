@@ -136,7 +136,6 @@ module _ (t : Table) (st : List (ℕ × Ty)) (scope : Scope) (f : Text → Found
   size_of_place k n None cs h = name_size (f n.text) _ (k.means n.text) (Term.Number (pos 0)) 1 cs cs h (omega arith)
   size_of_place k n (Some (p, i, q)) cs h = name_size (f n.text) _ (k.means n.text) (term t scope i) (own f i) (mentioned f i cs) cs h (size_of_term k i cs h)
 
-
   size_assigned : (p e : Term) (rest : Act) → IsTarget p → act_size st (assigned p e rest) ≡ 1 + term_size st p + term_size st e + act_size st rest
   size_assigned (Cell n i) e rest h = refl
   size_assigned (Trn n) e rest h = refl

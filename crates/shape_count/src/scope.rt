@@ -32,13 +32,7 @@ fn found_declared(k: Option<Known>) -> Found
     ensures { (d : Option Declared) → k ≡ option_map known d → result ≡ spec.found_declared d }
 {
     match k {
-        Some(Known::Storage(size, _)) => {
-            if size == 1 {
-                Found::Leaf
-            } else {
-                Found::Wide
-            }
-        }
+        Some(Known::Storage(size, _)) => { if size == 1 { Found::Leaf } else { Found::Wide } }
         _ => Found::Leaf,
     }
 }
