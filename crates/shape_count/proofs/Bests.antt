@@ -1,9 +1,9 @@
 -- What the code finds of a key is the greatest of what its rule's derivations come to.
 use Rattle.std.proofs.Common.{ℕ, zero, suc, ◌≡◌, ◌≤◌, ◌<◌, ◌+◌, ◌*◌, min, max, pos, refl, sym, ◌∙◌, ap, subst, arith, Bool, true, false, cond, List, [], ◌∷◌, map, length, slice_get, Option, Some, None, option_map, Contains, codes, inl, inr, true≢false, IfOk, Result, Ok, Err}
-use Rattle.std.specs.Prelude.{unwrap_or, ◌==◌, ◌&&◌, IfSome}
+use Rattle.std.specs.Prelude.{unwrap_or, ◌==◌, ◌&&◌, IfSome, if◌then◌else◌}
 use Rattle.std.specs.List.{AllByRecursion}
 use Rattle.std.proofs.lemmas.Bool.Decides.{Decides-eqb}
-use Rattle.std.proofs.Math.Nat.{mul_assoc, add-mul, mul-add}
+use Rattle.std.proofs.Math.Nat.{mul_assoc, add-mul, mul-add, mul-le-mul_left}
 use Rattle.std.specs.Map.{lookup}
 use Rattle.indexmap.specs.IndexMap.{insert_entry}
 use Rattle.nml_tree.specs.declared.tree.Par.{Par}
@@ -30,7 +30,7 @@ use Rattle.nml_upward.proofs.Upward.{are_made, at_number, rule_number}
 use Rattle.shape_count.specs.declared.key.Key.{Key}
 use Rattle.shape_count.specs.declared.summary.Summary.{Summary}
 use Rattle.shape_count.specs.Sizes.{plus, times}
-use Rattle.shape_count.specs.Weights.{weighed, IsBest, IsSummary, count_at, value_weight, action_weight, own_weight, sum_best, max_best, key_eq, known_best, name_best, with_names, part_best, par_best, with_pars, and_best, AreRight, op_rule, mode_rule}
+use Rattle.shape_count.specs.Weights.{weighed, IsBest, IsSummary, count_at, value_weight, action_weight, own_weight, sum_best, max_best, key_eq, known_best, scaled_best, number_best, name_best, with_names, part_best, par_best, with_pars, and_best, AreRight, op_rule, mode_rule}
 use Rattle.shape_count.proofs.Greatest.{counted_product, most_of, most_is, or_greatest, Weigh, arg_sum, best_sum, IsParGreatest, AreParGreatest, and_greatest}
 use Rattle.shape_count.proofs.RootRule.{root_is_rule}
 use Rattle.shape_count.proofs.Written.{dot}
@@ -131,6 +131,31 @@ first_known ask n ns r h = by (ask n) refl h
 small : {A : Type 0} (P : A → Type 0) (f : A → ℕ) (n : ℕ) → IsGreatest P f n → n ≤ 1000000
 small P f n g = let e = g.reached.2 in omega (arith, e)
 
+-- so many times the greatest value
+scaled_some : (v : ℕ) (o : Option ℕ) (r : ℕ) → scaled_best v o ≡ Some r → (b : ℕ) × (o ≡ Some b) × (times v b ≡ r)
+scaled_some v None r h = absurd cc
+scaled_some v (Some b) r h = (b, refl, some_same _ _ h)
+
+scaled_greatest : (t : Table) (P : Derivation → Type 0) (v b : ℕ) → IsGreatest P (weighed t 0 1) b → IsGreatest P (weighed t 0 v) (times v b)
+scaled_greatest t P v b g = record {
+  bound = λ x p.
+      let l = g.bound x p in
+      let z = term_size (storages t) (written t 0 x).value in
+      let low : counted z ≤ b = omega (arith, l) in
+      let e : counted (v * z) ≡ counted (v * counted z) = counted_product v z v (counted z) refl (omega arith) in
+      let m : v * counted z ≤ v * b = mul-le-mul_left v low in
+      let n : 0 * act_size (storages t) (written t 0 x).action ≡ 0 = omega arith in
+      omega (arith, e, m, n);
+  reached =
+      let r = g.reached in
+      let z = term_size (storages t) (written t 0 r.0).value in
+      let is : counted z ≡ b = (let q = r.2 in omega (arith, q)) in
+      let e : counted (v * z) ≡ counted (v * counted z) = counted_product v z v (counted z) refl (omega arith) in
+      let m : v * counted z ≡ v * b = ap (λ n. v * n) is in
+      let n : 0 * act_size (storages t) (written t 0 r.0).action ≡ 0 = omega arith in
+      (r.0, r.1, omega (arith, e, m, n));
+}
+
 module _ (d : Desc) (made : AreMade (table d)) (known : List (Key × ℕ)) (right : AreRight d known) where
   -- of a rule by its name
   name_right : (k : Key) (b : Text) → IsRule (table d) b → (v : ℕ) → name_best d known k b ≡ Some v → IsGreatest (IsDerivation (table d) b) (weighed (table d) k.action k.value) v
@@ -138,6 +163,23 @@ module _ (d : Desc) (made : AreMade (table d)) (known : List (Key × ℕ)) (righ
       let r = rule_number d b rule in
       let e : r.0 ≡ unwrap_or (item_number d b) 0 = sym (ap (λ o. unwrap_or o 0) r.2) in
       right_from d known right.best _ v h b (subst (HasNumber d b) e r.2) rule
+
+  -- of a part, so often
+  part_right : (b : Text) → IsRule (table d) b → (a v r : ℕ) → number_best known (unwrap_or (item_number d b) 0) a v ≡ Some r → IsGreatest (IsDerivation (table d) b) (weighed (table d) a v) r
+  part_right b rule a v r h = by (a == 0) refl h
+    where
+      n : ℕ
+      n = unwrap_or (item_number d b) 0
+
+      by : (x : Bool) → (a == 0) ≡ x → (if x then scaled_best v (known_best known (record { number = n; action = 0; value = 1 })) else known_best known (record { number = n; action = a; value = v })) ≡ Some r
+          → IsGreatest (IsDerivation (table d) b) (weighed (table d) a v) r
+      by true is g =
+          let o = scaled_some v (known_best known (record { number = n; action = 0; value = 1 })) r g in
+          let none : a ≡ 0 = (Decides-eqb a 0).0 is in
+          let most = name_right (record { number = 0; action = 0; value = 1 }) b rule o.0 o.1 in
+          subst (λ m. IsGreatest (IsDerivation (table d) b) (weighed (table d) m v) r) (sym none)
+          (subst (λ m. IsGreatest (IsDerivation (table d) b) (weighed (table d) 0 v) m) o.2 (scaled_greatest (table d) (IsDerivation (table d) b) v o.0 most))
+      by false is g = name_right (record { number = 0; action = a; value = v }) b rule r g
 
   pub or_right : (k : Key) (a : Text) (mode : Bool) (n : Text) (ns : List Text) (r : ℕ) → declared (table d) a ≡ Some (Declared.Or mode (n ∷ ns)) → with_names (name_best d known k) (name_best d known k n) ns ≡ Some r
       → IsGreatest (IsDerivation (table d) a) (weighed (table d) k.action k.value) r
@@ -211,8 +253,8 @@ module _ (d : Desc) (made : AreMade (table d)) (known : List (Key × ℕ)) (righ
       let b : or_zero (par_best d known s k i p) ≡ value_weight s k i = ap (λ o. or_zero (part_best known s k i (option_map (parameter_told d) o))) is in
       let c : counted (value_weight s k i) ≡ value_weight s k i = omega arith in c ∙ sym b
   par_most i p (Some (Parameter.Part b)) is h e =
-      let f : par_best d known s k i p ≡ known_best known (record { number = unwrap_or (item_number d b) 0; action = action_weight s k i; value = value_weight s k i }) = ap (λ o. part_best known s k i (option_map (parameter_told d) o)) is in
-      name_right d made known right (record { number = 0; action = action_weight s k i; value = value_weight s k i }) b h (or_zero (par_best d known s k i p)) (sym f ∙ e)
+      let f : par_best d known s k i p ≡ number_best known (unwrap_or (item_number d b) 0) (action_weight s k i) (value_weight s k i) = ap (λ o. part_best known s k i (option_map (parameter_told d) o)) is in
+      part_right d made known right b h (action_weight s k i) (value_weight s k i) (or_zero (par_best d known s k i p)) (sym f ∙ e)
 
   pars_most : (i : ℕ) (ps : List Par) → ((p : Par) → Contains ps p → IsParameter (table d) (parameter_of (table d) p.ty)) → AllPars (par_best d known s k) i ps → AreParGreatest (table d) ps (weighs (table d) (par_best d known s k) s k i ps)
   pars_most i [] params all = tt

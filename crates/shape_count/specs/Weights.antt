@@ -1,5 +1,5 @@
 -- What is counted of a rule's value and of its action together: so many times the one, and so many times the other. For private contracts.
-use Rattle.std.specs.Prelude.{ℕ, zero, suc, ◌≡◌, ◌==◌, ◌+◌, ◌*◌, max, Bool, ◌&&◌, List, [], ◌∷◌, map, length, slice_get, Option, Some, None, option_map, unwrap_or, replicate}
+use Rattle.std.specs.Prelude.{ℕ, if◌then◌else◌, zero, suc, ◌≡◌, ◌==◌, ◌+◌, ◌*◌, max, Bool, ◌&&◌, List, [], ◌∷◌, map, length, slice_get, Option, Some, None, option_map, unwrap_or, replicate}
 use Rattle.std.specs.List.{AllByRecursion}
 use Rattle.std.specs.Map.{lookup}
 use Rattle.nk_base.specs.Text.{text_eq}
@@ -122,11 +122,21 @@ abbrev pub with_names : (Text → Option ℕ) → Option ℕ → List Text → O
 with_names ask best [] = best
 with_names ask best (n ∷ ns) = with_names ask (max_best best (ask n)) ns
 
+-- so many times what is known
+abbrev pub scaled_best : ℕ → Option ℕ → Option ℕ
+scaled_best n best = option_map (λ b. times n b) best
+
+-- of the rule of this number, so often; where the value alone counts, the greatest value is asked for
+abbrev pub number_best : List (Key × ℕ) → (number times_action times_value : ℕ) → Option ℕ
+number_best known n a v =
+    if a == 0 then scaled_best v (known_best known (record { number = n; action = 0; value = 1 }))
+    else known_best known (record { number = n; action = a; value = v })
+
 -- of the parameter of this place
 abbrev pub part_best : List (Key × ℕ) → Summary → Key → ℕ → Option Parameter → Option ℕ
 part_best known s k place None = Some 0
 part_best known s k place (Some (parameter.Field ty)) = Some (value_weight s k place)
-part_best known s k place (Some (parameter.Part n)) = known_best known (record { number = n; action = action_weight s k place; value = value_weight s k place })
+part_best known s k place (Some (parameter.Part n)) = number_best known n (action_weight s k place) (value_weight s k place)
 
 -- the same as it is written
 abbrev pub par_best : Desc → List (Key × ℕ) → Summary → Key → ℕ → Par → Option ℕ

@@ -121,6 +121,46 @@ pub fn or_best(
     Ok(best)
 }
 
+/// So many times what is known.
+fn scaled(n: u32, best: Option<u32>) -> Option<u32>
+    ensures { result ≡ spec.scaled_best n best }
+{
+    match best {
+        None => None,
+        Some(b) => Some(times(n, b)),
+    }
+}
+
+/// That of the rule of this number, where its action and its value count so often. Where the value alone counts, the greatest value
+/// is asked for, however often it counts, so that a rule isn't asked for one number of times after the other.
+fn of_part(
+    known: &IndexMap<Key, u32>,
+    open: &mut Vec<Key>,
+    number: usize,
+    action: u32,
+    value: u32,
+) -> Result<Option<u32>, Memory>
+    ensures { IfOk result (λ o. o ≡ spec.number_best known.now.entries number action value) }
+{
+    if action == 0 {
+        let most = Key {
+            number,
+            action: 0,
+            value: 1,
+        };
+        return Ok(scaled(value, ask(known, open, most)?));
+    }
+    ask(
+        known,
+        open,
+        Key {
+            number,
+            action,
+            value,
+        },
+    )
+}
+
 /// That of the parameter of this place.
 fn of_par(
     names: &Names<'_>,
@@ -138,16 +178,7 @@ fn of_par(
         None => Ok(Some(0)),
         Some(Parameter::Field(_)) => Ok(Some(value)),
         Some(Parameter::Part(number)) => {
-            let action = action_weight(s, key, place);
-            ask(
-                known,
-                open,
-                Key {
-                    number,
-                    action,
-                    value,
-                },
-            )
+            of_part(known, open, number, action_weight(s, key, place), value)
         }
     }
 }
