@@ -1,0 +1,10 @@
+mod Members
+mod Greatest
+mod Counted
+mod RootRule
+mod Pass
+mod Written
+mod Places
+mod Targets
+mod Own
+mod Bests

@@ -1,0 +1,18 @@
+use Rattle.std.proofs.Common.{◌∙◌, ap, refl, subst}
+use Rattle.nml_tree.specs.Block.{action_block}
+use Rattle.nml_tree.specs.Table.{pars_of}
+use Rattle.shape_count.specs.Sizes.{finds}
+use Rattle.shape_count.specs.Weights.{AreActs, IsSummaryBy, numbered, op_rule, par_names, zeros}
+use Rattle.shape_count.proofs.Places.{same_finds}
+use Rattle.shape_count.proofs.summary.op_summary.Goals as goal
+
+pub returns : goal.returns
+returns c =
+    let rule = op_rule c.args.rule.now in
+    let f = finds c.args.names.now c.in_ok-places.places.entries in
+    subst (λ g. IsSummaryBy g rule (record { value = 1; value_counts = c.in_ok-value_counts.value_counts; acts = c.in_ok-acts.acts })) (same_finds c.args.names.now c.in_ok-places.places.entries (numbered 0 (par_names rule.pars)) c.in_ok-places.ensures)
+    (record {
+      value = refl;
+      value_counts = c.in_ok-value_counts.ensures.items_if_clones_equal (λ y h. h) ∙ ap zeros c.par_count-count.ensures;
+      acts = subst (λ n. AreActs f rule.action n c.in_ok-acts.acts) c.par_count-count.ensures c.in_ok-acts.ensures;
+    })

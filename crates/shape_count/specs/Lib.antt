@@ -1,0 +1,4 @@
+pub mod Tally
+pub mod Tallies
+pub mod Sizes
+pub mod Weights

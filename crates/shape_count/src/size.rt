@@ -1,0 +1,128 @@
+//! How long an action written out is at most.
+
+ghost use Rattle.std.specs.Prelude.{◌≡◌, Some, IfOk, IfSome, OnOk, slice_get};
+ghost use Rattle.nml_tree.specs.Refused.{IsFreeBelow};
+ghost use Rattle.nml_tree.specs.Shapes.{IsGreatest, size_of_action};
+ghost use Rattle.nml_tree.specs.Table.{table};
+ghost use Rattle.nml_tree.specs.Valid.{IsRoot};
+ghost use Rattle.shape_count.specs.Weights.{AreRight, IsBest};
+
+use crate::best::{and_best, or_best};
+use crate::key::{Key, look, number_of};
+use crate::root::root_name;
+use crate::summary::{mode_summary, op_summary};
+use indexmap::IndexMap;
+use nk_base::Memory;
+use nml_known::Names;
+use nml_tree::Item;
+use std::alloc::Global;
+
+/// What the key comes to at most, this being its item; `None` where something below it isn't known, which is then put onto the open
+/// ones.
+fn rule_best(
+    alloc: Global,
+    names: &Names<'_>,
+    known: &IndexMap<Key, u32>,
+    open: &mut Vec<Key>,
+    key: Key,
+    item: &Item,
+) -> Result<Option<u32>, Memory>
+    requires free { IsFreeBelow 12 names.now }
+    requires right { AreRight names.now known.now.entries }
+    requires at { slice_get names.now.items key.number ≡ Some item.now }
+    ensures { IfOk result (λ o. IfSome o (λ b. IsBest names.now key b)) }
+{
+    match item {
+        Item::Let(_, _, _, _, _) => Ok(Some(0)),
+        Item::Type(_, _, _, _) => Ok(Some(0)),
+        Item::Storage(_) => Ok(Some(0)),
+        Item::Port(_) => Ok(Some(0)),
+        Item::OrRule(rule) => {
+            or_best(names, known, open, key, &rule.first, rule.rest.as_slice())
+        }
+        Item::OpRule(rule) => {
+            let s = op_summary(alloc, names, rule)?;
+            and_best(names, known, open, &s, key, &rule.pars)
+        }
+        Item::ModeRule(rule) => {
+            let s = mode_summary(alloc, names, rule)?;
+            and_best(names, known, open, &s, key, &rule.pars)
+        }
+    }
+}
+
+/// The same; where there is no such item, there is nothing to come to.
+fn item_best(
+    alloc: Global,
+    names: &Names<'_>,
+    known: &IndexMap<Key, u32>,
+    open: &mut Vec<Key>,
+    key: Key,
+) -> Result<Option<u32>, Memory>
+    requires free { IsFreeBelow 12 names.now }
+    requires right { AreRight names.now known.now.entries }
+    ensures { IfOk result (λ o. IfSome o (λ b. IsBest names.now key b)) }
+{
+    match names.items().get(key.number) {
+        None => Ok(Some(0)),
+        Some(item) => rule_best(alloc, names, known, open, key, item),
+    }
+}
+
+/// Makes the key known, or puts it and what isn't known below it onto the open ones.
+fn settle(
+    alloc: Global,
+    names: &Names<'_>,
+    known: &mut IndexMap<Key, u32>,
+    open: &mut Vec<Key>,
+    key: Key,
+) -> Result<(), Memory>
+    requires free { IsFreeBelow 12 names.now }
+    requires right { AreRight names.now known.old.entries }
+    ensures { OnOk result (AreRight names.now known.new.entries) }
+{
+    if look(known, key).is_some() {
+        return Ok(());
+    }
+    open.push(key)?;
+    match item_best(alloc, names, known, open, key)? {
+        None => {}
+        Some(best) => {
+            open.pop();
+            known.insert(key, best)?;
+        }
+    }
+    Ok(())
+}
+
+/// How long the action of an instruction is at most, written out.
+///
+/// A rule's value stands as often as it is named, and its action where it is said, both of one derivation; so for each rule and each
+/// pair of numbers of times that some instruction asks for, the greatest sum is found once, from the rules that name no other
+/// upwards. A rule is asked for one pair in nearly all descriptions, for several where it is a part at several places that name it
+/// unequally often. No stack grows with the rules. The one error is want of memory.
+pub fn greatest_size(alloc: Global, names: &Names<'_>) -> Result<u32, Memory>
+    requires free { IsFreeBelow 12 names.now }
+    ensures { IfOk result (λ n. IsGreatest (IsRoot (table names.now)) (size_of_action (table names.now)) n) }
+{
+    let root = root_name(alloc)?;
+    let whole = Key {
+        number: number_of(names, &root),
+        action: 1,
+        value: 0,
+    };
+    let mut known = IndexMap::new(alloc);
+    let mut open = Vec::new(alloc);
+    for _ in 0..usize::MAX {
+        match look(&known, whole) {
+            None => {}
+            Some(best) => return Ok(best),
+        }
+        let key = match open.pop() {
+            None => whole,
+            Some(next) => next,
+        };
+        settle(alloc, names, &mut known, &mut open, key)?;
+    }
+    Err(Memory)
+}
