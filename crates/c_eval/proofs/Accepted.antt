@@ -1,5 +1,5 @@
 -- An accepted program has small numbers.
-use Rattle.std.proofs.Common.{◌≡◌, refl, sym, ap, ◌∙◌, subst, ℕ, zero, suc, ◌+◌, ◌-◌, ◌^◌, ◌<◌, ◌≤◌, arith, ℤ, pos, negsuc, neg_ℤ, Bool, true, false, not, ◌&&◌, nat_lt, List, [], ◌∷◌, ◌++◌, map, drop, slice_get, is_some, Option, Some, None, option_map, if◌then◌else◌}
+use Rattle.std.proofs.Common.{◌≡◌, refl, subst, ℕ, zero, suc, ◌-◌, ◌^◌, ◌<◌, ◌≤◌, arith, pos, negsuc, neg_ℤ, Bool, true, false, not, ◌&&◌, nat_lt, List, [], ◌∷◌, ◌++◌, map, drop, slice_get, Option, Some, None, option_map}
 use Rattle.std.specs.Prelude.{int_lt, int_le}
 use Rattle.std.specs.List.{filter, flat_map}
 use Rattle.std.proofs.Math.Pow.{pow_mono}
@@ -9,8 +9,6 @@ use Rattle.c_tree.specs.declared.operator.Bin.{Bin}
 use Rattle.c_tree.specs.declared.operator.Bin.TheVariants as bin
 use Rattle.c_tree.specs.declared.statement.AssignMark.{AssignMark}
 use Rattle.c_tree.specs.declared.statement.AssignMark.TheVariants as store
-use Rattle.c_tree.specs.declared.statement.StepMark.{StepMark}
-use Rattle.c_tree.specs.declared.statement.StepMark.TheVariants as change
 use Rattle.c_tree.specs.declared.program.SNum.{SNum}
 use Rattle.c_tree.specs.declared.program.GVar.{GVar}
 use Rattle.c_tree.specs.declared.program.GVar.TheVariants as gvar
@@ -25,11 +23,11 @@ use Rattle.c_tree.specs.Statement.{Index, Act, Assign, Step, Invoke, Variable, S
 use Rattle.c_tree.specs.Statement as statement
 use Rattle.c_tree.specs.Items.{Definition, Item, Variables, Defines, item, items}
 use Rattle.c_tree.specs.Names.{Names, seen, callee, inner, declared_variables, behind_variable, behind_variables, behind_opening, behind_statement, first_names, behind_gvar, behind_global, before_body, gvars}
-use Rattle.c_tree.specs.Faults.{Fault, giving, unless, number_faults, is_amount, shift_faults, formula_faults, further_faults, optional_faults, index_faults, act_faults, variable_faults, variables_faults, Within, in_loop, opening_faults, last_faults, statement_faults, body_faults, initial_faults, initials_faults, too_many_faults, gvar_faults, gvars_faults, globals_faults, faults}
+use Rattle.c_tree.specs.Faults.{Fault, giving, unless, number_faults, is_amount, shift_faults, formula_faults, further_faults, optional_faults, index_faults, act_faults, variable_faults, variables_faults, Within, in_loop, opening_faults, last_faults, statement_faults, body_faults, initial_faults, initials_faults, too_many_faults, gvar_faults, gvars_faults, globals_faults}
 use Rattle.c_tree.specs.Program.{Term, Terms, Command, Function, Program}
 use Rattle.c_tree.specs.Program as program
 use Rattle.c_tree.specs.Meaning.{main_body}
-use Rattle.c_tree.specs.Resolve.{scalar, element, called, written, unary, binary, term, terms, stored, element_stored, assigned, as_store, index_term, first_term, invoked, invocation, act, variable, variables, opening, last, command, commands, function, body_of, resolved_functions, signed, initial, named_main, first_of_all, resolved}
+use Rattle.c_tree.specs.Resolve.{scalar, element, called, written, unary, binary, term, terms, stored, assigned, as_store, index_term, first_term, invoked, invocation, act, variable, variables, opening, last, command, commands, body_of, resolved_functions, signed, initial, named_main, first_of_all, resolved}
 use Rattle.c_tree.specs.Accepted.{IsAcceptedTree}
 use Rattle.c_frames.specs.Small.{IsSmallTerm, AreSmallTerms, IsSmallOption, IsSmallCommand, IsSmallProgram}
 use Rattle.c_eval.specs.Starts.{IsSmallValue, AreSmallValues, HasSmallValues, HaveSmallValues, BeginSmall}
