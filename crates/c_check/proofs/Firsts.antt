@@ -84,7 +84,7 @@ none_of (x ∷ xs) is = absurd (subst (λ r. Below r x) is (each_below (x ∷ xs
 
 -- ---- faults
 
-none_left : (fs : List Fault) → flat_map name_place fs ≡ [] → flat_map kind_place fs ≡ [] → flat_map number_place fs ≡ [] → flat_map shift_place fs ≡ [] → fs ≡ []
+pub none_left : (fs : List Fault) → flat_map name_place fs ≡ [] → flat_map kind_place fs ≡ [] → flat_map number_place fs ≡ [] → flat_map shift_place fs ≡ [] → fs ≡ []
 none_left [] a b c d = refl
 none_left (BadName at ∷ fs) a b c d = absurd cc
 none_left (BadKind at ∷ fs) a b c d = absurd cc

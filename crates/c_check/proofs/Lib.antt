@@ -6,3 +6,4 @@ pub mod Behind
 pub mod Firsts
 pub mod Judging
 pub mod OneFault
+pub mod SomeFault

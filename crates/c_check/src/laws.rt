@@ -15,3 +15,8 @@ pub fn has_one_fault()
 pub fn accepted_has_none()
     ensures { (gs : List Item) (n : ℕ) (f : CFault) → IsAccepted gs n → IsFaultOf gs n f → f ≡ fault.Memory }
 {}
+
+/// A program that has no fault, want of memory apart, is accepted.
+pub fn some_fault()
+    ensures { (gs : List Item) (n : ℕ) → ((f : CFault) → IsFaultOf gs n f → f ≡ fault.Memory) → IsAccepted gs n }
+{}

@@ -11,4 +11,4 @@ mod numbers;
 mod statement;
 
 pub use accept::check;
-pub use laws::{accepted_has_none, has_one_fault};
+pub use laws::{accepted_has_none, has_one_fault, some_fault};

@@ -1,3 +1,5 @@
 mod Runs
 mod LaidOut
 mod Cells
+mod Accepted
+mod Values

@@ -9,13 +9,18 @@ use Rattle.c_tree.specs.Program.{Program}
 use Rattle.c_tree.specs.Meaning.{stopped, outcome}
 use Rattle.c_frames.specs.Steps.{Config, Move, Goes, Stops, step, moved_on, follow, begin, rest_of, Follows, HasStopped, ahead, ahead_config, ahead_move, steps_left}
 use Rattle.c_frames.proofs.Keeps.{follows}
+use Rattle.c_frames.specs.Small.{IsSmallProgram, IsSmallWork, IsSmall}
+use Rattle.c_frames.proofs.Small.{step_small}
 use Rattle.c_frames.proofs.Halts.{from_begin}
 use Rattle.c_frames.proofs.Ahead.{follow_ahead, stops_behind, left_ahead, fewer_left}
 use Rattle.c_machine.specs.declared.code.Code.{Code}
 use Rattle.c_machine.specs.declared.machine.Machine.{Machine}
 use Rattle.c_machine.specs.declared.task.Moved.{Moved}
 use Rattle.c_machine.specs.declared.task.Moved.TheVariants as moves
-use Rattle.c_machine.specs.Stands.{config_of, move_of, state_of}
+use Rattle.c_machine.specs.declared.task.Task.{Task}
+use Rattle.c_machine.specs.declared.task.Task.TheVariants as tasks
+use Rattle.c_machine.specs.Small.{IsSmallTask}
+use Rattle.c_machine.specs.Stands.{config_of, move_of, state_of, work_of}
 use Rattle.c_eval.specs.Running.{Running, left}
 
 lines_more : (xs ys : List ℤ) → lines (xs ++ ys) ≡ lines xs ++ lines ys
@@ -59,7 +64,8 @@ module _ (p : Program) (c : Code) (input : List ℤ) where
 
   pub goes : (o : Outcome) (most : ℕ) (start now : Option (List ℕ)) (old new : Machine) → Running p c input o most start now old → Moves old new moves.Goes → Running p c input o most start now new × (left p c input most new < left p c input most old)
   goes o most start now old new r is =
-      let f = fewer_left p c.bits most r.steps (config old []) (config new []) r.within r.stopped (sym (is [])) in (
+      let f = fewer_left p c.bits most r.steps (config old []) (config new []) r.within r.stopped (sym (is [])) in
+      let s = step_small p c.bits r.program (config old []) (config new []) (record { work = r.work; frames = r.frames }) (sym (is [])) in (
         record {
           out = r.out;
           follows = on_step o (config old r.out) (Goes (config new r.out)) r.follows (is r.out);
@@ -67,6 +73,9 @@ module _ (p : Program) (c : Code) (input : List ℤ) where
           steps = f.steps;
           within = f.within;
           stopped = f.stopped;
+          program = r.program;
+          work = s.work;
+          frames = s.frames;
         },
         f.fewer,
       )
@@ -77,7 +86,8 @@ module _ (p : Program) (c : Code) (input : List ℤ) where
   pub puts : (o : Outcome) (most : ℕ) (start now then : Option (List ℕ)) (old new : Machine) (z : ℤ) → Running p c input o most start now old → Moves old new (moves.Puts z) → Took now then (line z) → Running p c input o most start then new × (left p c input most new < left p c input most old)
   puts o most start now then old new z r is took =
       let f = fewer_left p c.bits most r.steps (config old []) (config new (z ∷ [])) r.within r.stopped (sym (is [])) in
-      let same : left p c input most new ≡ steps_left p c.bits most (config new (z ∷ [])) = sym (left_ahead p c.bits most (z ∷ []) (config new [])) in (
+      let same : left p c input most new ≡ steps_left p c.bits most (config new (z ∷ [])) = sym (left_ahead p c.bits most (z ∷ []) (config new [])) in
+      let s = step_small p c.bits r.program (config old []) (config new (z ∷ [])) (record { work = r.work; frames = r.frames }) (sym (is [])) in (
         record {
           out = r.out ++ z ∷ [];
           follows = put_on o most start now old new z r is;
@@ -85,6 +95,9 @@ module _ (p : Program) (c : Code) (input : List ℤ) where
           steps = f.steps;
           within = f.within;
           stopped = stops_behind p c.bits f.steps (z ∷ []) (config new []) f.stopped;
+          program = r.program;
+          work = s.work;
+          frames = s.frames;
         },
         subst (λ k. k < left p c input most old) (sym same) f.fewer,
       )
@@ -110,12 +123,33 @@ module _ (p : Program) (c : Code) (input : List ℤ) where
   abbrev pub most : ℕ → ℕ
   most turns = (from_begin p c.bits input turns).0
 
-  pub begun : (m : Machine) (turns : ℕ) (now : Option (List ℕ)) → config m [] ≡ begin p c.bits input turns → Running p c input (outcome p c.bits input turns) (most turns) now now m
-  begun m turns now is = record {
+  -- at the beginning the body of `main` is to be run
+  begin_small : (turns : ℕ) → IsSmallProgram p → IsSmall p c.bits (begin p c.bits input turns)
+  begin_small turns small = record { work = small.main; frames = tt }
+
+  pub begun : (m : Machine) (turns : ℕ) (now : Option (List ℕ)) → IsSmallProgram p → config m [] ≡ begin p c.bits input turns → Running p c input (outcome p c.bits input turns) (most turns) now now m
+  begun m turns now small is = let s = subst (IsSmall p c.bits) (sym is) (begin_small turns small) in record {
     out = [];
     follows = sym (ap (rest_of p c.bits) is);
     took = took_nothing now;
     steps = most turns;
     within = omega arith;
     stopped = subst (λ d. HasStopped p c.bits (follow p c.bits (most turns) d)) (sym is) (from_begin p c.bits input turns).1;
+    program = small;
+    work = s.work;
+    frames = s.frames;
   }
+
+  -- what is in hand in code
+  pub task_small : (zs : List ℤ) (t : Task) → IsSmallWork p c.bits (work_of p c.bits c.nodes.items zs t) → IsSmallTask c.nodes.items t
+  task_small zs (tasks.Eval k) h = h
+  task_small zs (tasks.Arguments k) h = tt
+  task_small zs (tasks.Give z) h = tt
+  task_small zs tasks.Pass h = tt
+  task_small zs (tasks.Run k) h = tt
+  task_small zs tasks.Nothing h = tt
+  task_small zs (tasks.Again l b) h = tt
+  task_small zs tasks.On h = tt
+  task_small zs tasks.Leave h = tt
+  task_small zs tasks.Onward h = tt
+  task_small zs (tasks.Back z) h = tt

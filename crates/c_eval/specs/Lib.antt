@@ -1,3 +1,4 @@
 pub mod Laid
 pub mod Evaluates
 pub mod Running
+pub mod Starts

@@ -8,8 +8,10 @@ ghost use Rattle.c_tree.specs.Program.{Program};
 ghost use Rattle.c_tree.specs.Meaning.{outcome};
 ghost use Rattle.c_tree.specs.Resolve.{resolved};
 ghost use Rattle.c_flat.specs.Written.{Falls};
+ghost use Rattle.c_frames.specs.Small.{IsSmallProgram, AreSmallFrames};
 ghost use Rattle.c_frames.specs.Steps.{begin};
-ghost use Rattle.c_machine.specs.Stands.{IsCode, config_of};
+ghost use Rattle.c_machine.specs.Small.{IsSmallTask};
+ghost use Rattle.c_machine.specs.Stands.{IsCode, config_of, frames_of};
 ghost use Rattle.c_eval.specs.Evaluates.{Evaluates, CountsRun};
 ghost use Rattle.c_eval.specs.Running.{Running, Advanced};
 
@@ -54,6 +56,8 @@ fn advance<S: Sink>(
 ) -> Result<Option<Stop>, EvalFault>
     requires falls { Falls code.now.nodes.items }
     requires width { IsWidth code.now.bits }
+    requires small { IsSmallTask code.now.nodes.items machine.old.task }
+    requires frames { AreSmallFrames (frames_of code.now.nodes.items machine.old.frames.items) }
     ensures run { (p : Program) → IsCode code.now p → (o : Outcome) (most : ℕ) (start : Option (List ℕ)) → Running p code.now input.now o most start (S.taken sink.old) machine.old → Advanced p code.now input.now o most start (S.taken sink.new) machine.old machine.new result }
     ensures counts { CountsRun (S.faults sink.old) (S.faults sink.new) result }
 {
@@ -81,6 +85,7 @@ fn run<S: Sink>(
     requires falls { Falls code.now.nodes.items }
     requires width { IsWidth code.now.bits }
     requires code { IsCode code.now (resolved p.now.0) }
+    requires small { IsSmallProgram (resolved p.now.0) }
     requires begins { config_of (resolved p.now.0) code.now.bits code.now.nodes.items input.now machine.old [] ≡ begin (resolved p.now.0) code.now.bits input.now machine.old.turns }
     ensures run { Evaluates (outcome (resolved p.now.0) code.now.bits input.now machine.old.turns) (S.taken sink.old) (S.taken sink.new) result }
     ensures counts { CountsRun (S.faults sink.old) (S.faults sink.new) result }

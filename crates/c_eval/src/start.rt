@@ -5,8 +5,10 @@ ghost use Rattle.nk_base.specs.Number.{IsWidth};
 ghost use Rattle.c_tree.specs.Names.{gvars};
 ghost use Rattle.c_tree.specs.Resolve.{initial, resolved};
 ghost use Rattle.c_flat.specs.Written.{Falls};
+ghost use Rattle.c_frames.specs.Small.{IsSmallProgram};
 ghost use Rattle.c_frames.specs.Steps.{begin};
 ghost use Rattle.c_machine.specs.Stands.{IsCode, config_of};
+ghost use Rattle.c_eval.specs.Starts.{IsSmallValue, AreSmallValues, HasSmallValues, HaveSmallValues, BeginSmall};
 ghost use Rattle.c_eval.specs.Laid as laid;
 ghost use Rattle.c_eval.specs.Laid.{cells_of_global, entries_of, others_cells, main_cells, task_of, variable_cells};
 
@@ -16,16 +18,15 @@ use c_tree::{CProg, GVar, Global as CGlobal, SNum, Vars};
 use nk_base::Memory;
 use std::alloc::Global;
 
-/// An initial value, where 64 bits hold it. The one error is want of memory, for a longer one.
-fn initial_value(z: SNum) -> Result<i64, Memory>
-    ensures { IfOk result (λ i. i ≡ initial z) }
+/// An initial value.
+fn initial_value(z: SNum) -> i64
+    requires { IsSmallValue z }
+    ensures { result ≡ initial z }
 {
-    match i64::try_from(z.number.value) {
-        Err(_) => Err(Memory),
-        Ok(value) => match z.minus {
-            None => Ok(value),
-            Some(_) => Ok(-value),
-        },
+    let value = z.number.value as i64;
+    match z.minus {
+        None => value,
+        Some(_) => -value,
     }
 }
 
@@ -41,10 +42,11 @@ fn push_zeros(memory: &mut Vec<i64>, count: usize) -> Result<(), Memory>
 
 /// Adds further initial values.
 fn push_values(memory: &mut Vec<i64>, rest: &[(u32, SNum)]) -> Result<(), Memory>
+    requires { AreSmallValues (map (λ (comma, x). x) rest.now) }
     ensures { OnOk result (memory.new.items ≡ memory.old.items ++ map (λ (comma, x). initial x) rest.now) }
 {
     for (_, one) in rest {
-        memory.push(initial_value(*one)?)?;
+        memory.push(initial_value(*one))?;
     }
     Ok(())
 }
@@ -127,24 +129,26 @@ fn push_array(
     first: SNum,
     rest: &[(u32, SNum)],
 ) -> Result<(), Memory>
+    requires first { IsSmallValue first }
+    requires rest { AreSmallValues (map (λ (comma, x). x) rest.now) }
     ensures { OnOk result (memory.new.items ≡ memory.old.items ++ take count ((initial first ∷ map (λ (comma, x). initial x) rest.now) ++ replicate (count - length (initial first ∷ map (λ (comma, x). initial x) rest.now)) (pos 0))) }
 {
     let from = cells_in(memory.as_slice());
-    let value = initial_value(first)?;
-    memory.push(value)?;
+    memory.push(initial_value(first))?;
     push_values(memory, rest)?;
     fit(memory, from, count)
 }
 
 /// Adds the initial values of a global variable, and zeros behind them.
 fn push_variable(memory: &mut Vec<i64>, one: &GVar) -> Result<(), Memory>
+    requires { HasSmallValues one.now }
     ensures { OnOk result (memory.new.items ≡ memory.old.items ++ variable_cells one.now) }
 {
     match one {
         GVar::Scalar(_, value) => match value {
             None => push_zeros(memory, 1),
             Some((_, z)) => {
-                memory.push(initial_value(*z)?)?;
+                memory.push(initial_value(*z))?;
                 Ok(())
             }
         },
@@ -159,6 +163,7 @@ fn push_variable(memory: &mut Vec<i64>, one: &GVar) -> Result<(), Memory>
 
 /// Adds the cells of further global variables.
 fn push_others(memory: &mut Vec<i64>, rest: &[(u32, GVar)]) -> Result<(), Memory>
+    requires { HaveSmallValues (map (λ (comma, x). x) rest.now) }
     ensures { OnOk result (memory.new.items ≡ memory.old.items ++ flat_map variable_cells (map (λ (comma, x). x) rest.now)) }
 {
     for (_, one) in rest {
@@ -169,6 +174,7 @@ fn push_others(memory: &mut Vec<i64>, rest: &[(u32, GVar)]) -> Result<(), Memory
 
 /// Adds the cells of global variables that are declared together.
 fn push_variables(memory: &mut Vec<i64>, vars: &Vars) -> Result<(), Memory>
+    requires { HaveSmallValues (gvars vars.now) }
     ensures { OnOk result (memory.new.items ≡ memory.old.items ++ flat_map variable_cells (gvars vars.now)) }
 {
     push_variable(memory, &vars.first)?;
@@ -177,6 +183,7 @@ fn push_variables(memory: &mut Vec<i64>, vars: &Vars) -> Result<(), Memory>
 
 /// Adds the cells of all global variables.
 fn push_globals(memory: &mut Vec<i64>, globals: &[CGlobal]) -> Result<(), Memory>
+    requires { BeginSmall globals.now }
     ensures { OnOk result (memory.new.items ≡ memory.old.items ++ flat_map cells_of_global globals.now) }
 {
     for one in globals {
@@ -210,8 +217,7 @@ fn main_task(main: Option<Body>) -> Task
 
 /// The code of a program, and the machine before its first step.
 ///
-/// The one error is want of memory, also for an initial value that 64 bits don't hold, and where there are no numbers for
-/// so many cells.
+/// The one error is want of memory, also where there are no numbers for so many cells.
 pub fn start(alloc: Global, p: &CProg, turns: u64) -> Result<(Code, Machine), Memory>
     ensures bits { IfOk result (λ r. r.0.bits ≡ p.now.1) }
     ensures width { IfOk result (λ r. IsWidth r.0.bits) }
@@ -219,6 +225,7 @@ pub fn start(alloc: Global, p: &CProg, turns: u64) -> Result<(Code, Machine), Me
     ensures code { IfOk result (λ r. IsCode r.0 (resolved p.now.0)) }
     ensures begins { IfOk result (λ r. (n : ℕ) (input : List ℤ) → config_of (resolved p.now.0) n r.0.nodes.items input r.1 [] ≡ begin (resolved p.now.0) n input turns) }
     ensures turns { IfOk result (λ r. r.1.turns ≡ turns) }
+    ensures small { IfOk result (λ r. IsSmallProgram (resolved p.now.0)) }
 {
     let globals = p.tree.globals.as_slice();
     let mut nodes = Vec::new(alloc);

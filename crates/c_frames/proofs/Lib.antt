@@ -1,3 +1,4 @@
 pub mod Keeps
 pub mod Halts
 pub mod Ahead
+pub mod Small

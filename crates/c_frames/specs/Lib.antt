@@ -1,3 +1,4 @@
 pub mod Frames
 pub mod Steps
 pub mod Sample
+pub mod Small

@@ -1,2 +1,4 @@
 pub mod Stands
 pub mod Filled
+pub mod Cells
+pub mod Small

@@ -25,6 +25,7 @@ use Rattle.c_machine.specs.declared.sort.CommandNode.TheVariants as command_node
 use Rattle.c_machine.specs.declared.machine.Machine.{Machine}
 use Rattle.c_machine.specs.declared.code.Code.{Code}
 use Rattle.c_machine.specs.declared.code.Entry.{Entry}
+use Rattle.c_machine.specs.Cells.{cell_number}
 
 -- the expression, the arguments, the command that a node writes out
 abbrev pub term_at : List Node → ℕ → Term
@@ -106,9 +107,9 @@ expected ns expects.AsTruth = frames.AsTruth
 expected ns (expects.Argument xs) = frames.Argument (terms_at ns xs)
 expected ns (expects.SetTo q) = frames.SetTo q
 expected ns (expects.StoreIndex q m e) = frames.StoreIndex q m (term_at ns e)
-expected ns (expects.StoreAt c) = frames.StoreAt c
+expected ns (expects.StoreAt c) = frames.StoreAt (cell_number c)
 expected ns (expects.ChangeIndex q m op e) = frames.ChangeIndex q m op (term_at ns e)
-expected ns (expects.ChangeAt c op old) = frames.ChangeAt c op old
+expected ns (expects.ChangeAt c op old) = frames.ChangeAt (cell_number c) op old
 expected ns expects.Show = frames.Show
 expected ns expects.Forget = frames.Drop
 expected ns (expects.Then x) = frames.Choose (command_at ns x) program.Skip

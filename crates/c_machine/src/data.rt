@@ -1,50 +1,79 @@
 //! Cells of variables, and numbers as conditions and indices.
 
-ghost use Rattle.std.specs.Prelude.{◌≡◌, ◌+◌, ◌<◌, ℕ, true, false, pos, int_le, int_lt, unsigned_abs, ◌&&◌, slice_index_or, slice_set, IfOk, MatchOption, []};
+ghost use Rattle.std.specs.Prelude.{◌≡◌, ◌+◌, ◌<◌, ◌≤◌, ℕ, true, false, pos, int_le, int_lt, unsigned_abs, ◌&&◌, slice_index_or, slice_set, MatchOption, []};
 ghost use Rattle.c_tree.specs.Meaning.{Frame, cell};
 ghost use Rattle.c_tree.specs.Meaning as meaning;
 ghost use Rattle.c_machine.specs.Filled.{filled};
+ghost use Rattle.c_machine.specs.Cells.{cell_number};
 
 use c_tree::Place;
-use nk_base::Memory;
 
-/// The cell of a scalar. The one error is want of memory: there are no numbers for so many cells.
-pub fn scalar_cell(base: usize, place: Place) -> Result<u128, Memory>
-    ensures { IfOk result (λ c. (f : Frame) → f.base ≡ base → c ≡ cell f place) }
+/// A cell: how many stand before those that are counted, the variable's first one among these, and how many cells on.
+///
+/// There may be no such cell. The form is this project's own.
+#[derive(Clone, Copy)]
+pub struct Cell {
+    pub base: usize,
+    pub first: u128,
+    pub index: u64,
+}
+
+/// The cell of an element, or of a scalar with the index 0. It takes no memory.
+pub fn element_cell(base: usize, place: Place, index: u64) -> Cell
+    ensures { (f : Frame) → f.base ≡ base → cell_number result ≡ cell f place + index }
 {
     match place {
-        Place::Global(k) => Ok(k),
-        Place::Local(k) => match k.checked_add(base as u128) {
-            None => Err(Memory),
-            Some(at) => Ok(at),
+        Place::Global(first) => Cell {
+            base: 0,
+            first,
+            index,
         },
+        Place::Local(first) => Cell { base, first, index },
     }
 }
 
-/// The cell of an element. The one error is want of memory: there are no numbers for so many cells.
-pub fn element_cell(base: usize, place: Place, index: u64) -> Result<u128, Memory>
-    ensures { IfOk result (λ c. (f : Frame) → f.base ≡ base → c ≡ cell f place + index) }
+/// The cell of a scalar. It takes no memory.
+pub fn scalar_cell(base: usize, place: Place) -> Cell
+    ensures { (f : Frame) → f.base ≡ base → cell_number result ≡ cell f place }
 {
-    let first = scalar_cell(base, place)?;
-    match first.checked_add(u128::from(index)) {
-        None => Err(Memory),
-        Some(at) => Ok(at),
+    element_cell(base, place, 0)
+}
+
+/// The number of the cell among so many, where it is one of them.
+fn found(count: usize, at: Cell) -> Option<usize>
+    ensures { MatchOption result (count ≤ cell_number at) (λ i. (i ≡ cell_number at) × (i < count)) }
+{
+    let first = at.first.checked_add(at.base as u128)?;
+    let number = first.checked_add(u128::from(at.index))?;
+    if number < count as u128 {
+        Some(number as usize)
+    } else {
+        None
     }
 }
 
 /// What the cell holds; there is a 0 behind the last one. It takes no memory.
-pub fn held(memory: &[i64], at: u128) -> i64
-    ensures { result ≡ slice_index_or memory.now at (pos 0) }
+pub fn held(memory: &[i64], at: Cell) -> i64
+    ensures { result ≡ slice_index_or memory.now (cell_number at) (pos 0) }
 {
-    if at < memory.len() as u128 {
-        memory[at as usize]
-    } else {
-        0
+    match found(memory.len(), at) {
+        None => 0,
+        Some(i) => memory[i],
     }
 }
 
 /// Puts the number into the cell, where there is such a cell. It takes no memory.
-pub fn put(memory: &mut Vec<i64>, at: u128, z: i64)
+pub fn put(memory: &mut Vec<i64>, at: Cell, z: i64)
+    ensures { memory.new.items ≡ slice_set memory.old.items (cell_number at) z }
+{
+    match found(memory.len(), at) {
+        None => {}
+        Some(i) => memory[i] = z,
+    }
+}
+
+/// Puts the number into the cell of this number, where there is one.
+fn put_at(memory: &mut Vec<i64>, at: u128, z: i64)
     ensures { memory.new.items ≡ slice_set memory.old.items at z }
 {
     if at < memory.len() as u128 {
@@ -59,7 +88,7 @@ pub fn fill(memory: &mut Vec<i64>, arguments: &mut Vec<i64>, base: usize)
 {
     let mut at = base as u128;
     while let Some(z) = arguments.pop() {
-        put(memory, at, z);
+        put_at(memory, at, z);
         at += 1;
     }
 }

@@ -1,8 +1,9 @@
 //! Expressions and arguments.
 
-ghost use Rattle.std.specs.Prelude.{◌≡◌, ◌∷◌, pos, IfOk};
+ghost use Rattle.std.specs.Prelude.{◌≡◌, ◌<◌, ◌^◌, ◌∷◌, pos, IfOk};
 ghost use Rattle.c_frames.specs.Steps.{to, step_eval, step_arguments};
 ghost use Rattle.c_frames.specs.Frames.{Eval, Give, frame_at};
+ghost use Rattle.c_frames.specs.Small.{IsSmallTerm};
 ghost use Rattle.c_tree.specs.Meaning.{cell};
 ghost use Rattle.c_tree.specs.Meaning as meaning;
 ghost use Rattle.c_flat.specs.Written.{written};
@@ -17,23 +18,21 @@ use c_tree::Place;
 use nk_base::Memory;
 
 impl Machine {
-    /// Gives a number, where 64 bits hold it. The one error is want of memory, for a longer one.
-    fn give_number(&mut self, code: &Code, input: &[i64], z: u64) -> Result<Moved, Memory>
-        ensures { IfOk result (λ r. Comes code.now input.now self.old self.new r (λ p n w k s. to p n (Give (pos z)) w k s)) }
+    /// Gives a number.
+    fn give_number(&mut self, code: &Code, input: &[i64], z: u64) -> Moved
+        requires { z < 2 ^ 63 }
+        ensures { Comes code.now input.now self.old self.new result (λ p n w k s. to p n (Give (pos z)) w k s) }
     {
-        match i64::try_from(z) {
-            Err(_) => Err(Memory),
-            Ok(number) => Ok(self.go(code, input, Task::Give(number))),
-        }
+        self.go(code, input, Task::Give(z as i64))
     }
 
     /// Gives what a variable holds.
-    fn give_held(&mut self, code: &Code, input: &[i64], place: Place) -> Result<Moved, Memory>
-        ensures { IfOk result (λ r. Comes code.now input.now self.old self.new r (λ p n w k s. to p n (Give (meaning.held s (cell (frame_at p n w) place))) w k s)) }
+    fn give_held(&mut self, code: &Code, input: &[i64], place: Place) -> Moved
+        ensures { Comes code.now input.now self.old self.new result (λ p n w k s. to p n (Give (meaning.held s (cell (frame_at p n w) place))) w k s) }
     {
-        let at = scalar_cell(self.base, place)?;
+        let at = scalar_cell(self.base, place);
         let number = held(&self.memory, at);
-        Ok(self.go(code, input, Task::Give(number)))
+        self.go(code, input, Task::Give(number))
     }
 
     /// Waits for a number, and evaluates the node of this number. The one error is want of memory.
@@ -51,11 +50,12 @@ impl Machine {
 
     /// Evaluates the node of an expression, one step. The one error is want of memory.
     pub fn eval_term(&mut self, code: &Code, input: &[i64], term: TermNode) -> Result<Moved, Memory>
+        requires small { IsSmallTerm (term_over term (written code.now.nodes.items)) }
         ensures { IfOk result (λ r. Comes code.now input.now self.old self.new r (λ p n. step_eval p n (term_over term (written code.now.nodes.items)))) }
     {
         match term {
-            TermNode::Number(z) => self.give_number(code, input, z),
-            TermNode::Scalar(place) => self.give_held(code, input, place),
+            TermNode::Number(z) => Ok(self.give_number(code, input, z)),
+            TermNode::Scalar(place) => Ok(self.give_held(code, input, place)),
             TermNode::Element(place, length, i) => {
                 self.ask(code, input, Expects::Element(place, length), i)
             }

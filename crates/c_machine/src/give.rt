@@ -1,6 +1,6 @@
 //! What a number comes to that is given.
 
-ghost use Rattle.std.specs.Prelude.{◌≡◌, ◌∷◌, ◌++◌, [], ℤ, List, reverse, IfOk};
+ghost use Rattle.std.specs.Prelude.{◌≡◌, ◌<◌, ◌∷◌, ◌++◌, [], ℤ, List, reverse, IfOk};
 ghost use Rattle.nk_base.specs.Number.{IsWidth};
 ghost use Rattle.ir_core.specs.Operator as operator;
 ghost use Rattle.c_tree.specs.Meaning.{cell};
@@ -8,12 +8,14 @@ ghost use Rattle.c_tree.specs.Meaning as meaning;
 ghost use Rattle.c_flat.specs.Written.{written};
 ghost use Rattle.c_frames.specs.Frames.{Run, On, frame_at};
 ghost use Rattle.c_frames.specs.Frames as waits;
+ghost use Rattle.c_frames.specs.Small.{IsSmallFrame, AreSmallFrames};
 ghost use Rattle.c_frames.specs.Steps.{to, either_move, step_give};
-ghost use Rattle.c_machine.specs.Stands.{Comes, work_of, term_at, command_at, loop_over, expected, frame_of};
+ghost use Rattle.c_machine.specs.Cells.{cell_number};
+ghost use Rattle.c_machine.specs.Stands.{Comes, work_of, term_at, command_at, loop_over, expected, frame_of, frames_of};
 ghost use Rattle.c_machine.specs.declared.code.Code.{Code};
 
 use crate::code::Code;
-use crate::data::{element_cell, held, index_of, is_true, put, scalar_cell, truth};
+use crate::data::{Cell, element_cell, held, index_of, is_true, put, scalar_cell, truth};
 use crate::machine::Machine;
 use crate::task::{Expects, Moved, Pending, Repeat, Task};
 use c_tree::Place;
@@ -30,36 +32,27 @@ impl Machine {
         place: Place,
         length: u64,
         z: i64,
-    ) -> Result<Moved, Memory>
-        ensures { IfOk result (λ r. Comes code.now input.now self.old self.new r (λ p n w k s. step_give p n (waits.Element place length ∷ k) z w s)) }
+    ) -> Moved
+        ensures { Comes code.now input.now self.old self.new result (λ p n w k s. step_give p n (waits.Element place length ∷ k) z w s) }
     {
         match index_of(z, length) {
-            None => Ok(Moved::Stops(Stop::Trap(1))),
+            None => Moved::Stops(Stop::Trap(1)),
             Some(index) => {
-                let at = element_cell(self.base, place, index)?;
+                let at = element_cell(self.base, place, index);
                 let number = held(&self.memory, at);
-                Ok(self.go(code, input, Task::Give(number)))
+                self.go(code, input, Task::Give(number))
             }
         }
     }
 
-    /// Gives a number that is shifted. The one error is want of memory, for an amount that 64 bits don't hold.
-    fn give_shifted(
-        &mut self,
-        code: &Code,
-        input: &[i64],
-        op: Shift,
-        k: u64,
-        z: i64,
-    ) -> Result<Moved, Memory>
-        requires { IsWidth code.now.bits }
-        ensures { IfOk result (λ r. Comes code.now input.now self.old self.new r (λ p n w ks s. to p n (waits.Give (operator.shifted code.now.bits op z k)) w ks s)) }
+    /// Gives a number that is shifted.
+    fn give_shifted(&mut self, code: &Code, input: &[i64], op: Shift, k: u64, z: i64) -> Moved
+        requires width { IsWidth code.now.bits }
+        requires amount { k < 63 }
+        ensures { Comes code.now input.now self.old self.new result (λ p n w ks s. to p n (waits.Give (operator.shifted code.now.bits op z k)) w ks s) }
     {
-        if k >= 63 {
-            return Err(Memory);
-        }
         let number = shifted(code.bits, op, z, k as u32);
-        Ok(self.go(code, input, Task::Give(number)))
+        self.go(code, input, Task::Give(number))
     }
 
     /// The right side of `&&`, where it is needed.
@@ -85,19 +78,19 @@ impl Machine {
     }
 
     /// Puts the number into the cell.
-    fn store(&mut self, code: &Code, input: &[i64], at: u128, z: i64) -> Moved
-        ensures { Comes code.now input.now self.old self.new result (λ p n w k s. to p n On w k (meaning.put s at z)) }
+    fn store(&mut self, code: &Code, input: &[i64], at: Cell, z: i64) -> Moved
+        ensures { Comes code.now input.now self.old self.new result (λ p n w k s. to p n On w k (meaning.put s (cell_number at) z)) }
     {
         put(&mut self.memory, at, z);
         self.go(code, input, Task::On)
     }
 
     /// Puts the number into a variable.
-    fn set(&mut self, code: &Code, input: &[i64], place: Place, z: i64) -> Result<Moved, Memory>
-        ensures { IfOk result (λ r. Comes code.now input.now self.old self.new r (λ p n w k s. to p n On w k (meaning.put s (cell (frame_at p n w) place) z))) }
+    fn set(&mut self, code: &Code, input: &[i64], place: Place, z: i64) -> Moved
+        ensures { Comes code.now input.now self.old self.new result (λ p n w k s. to p n On w k (meaning.put s (cell (frame_at p n w) place) z)) }
     {
-        let at = scalar_cell(self.base, place)?;
-        Ok(self.store(code, input, at, z))
+        let at = scalar_cell(self.base, place);
+        self.store(code, input, at, z)
     }
 
     /// The value of an element with this index that is stored, where it is one.
@@ -115,7 +108,7 @@ impl Machine {
         match index_of(z, length) {
             None => Ok(Moved::Stops(Stop::Trap(1))),
             Some(index) => {
-                let at = element_cell(self.base, place, index)?;
+                let at = element_cell(self.base, place, index);
                 self.ask(code, input, Expects::StoreAt(at), e)
             }
         }
@@ -137,7 +130,7 @@ impl Machine {
         match index_of(z, length) {
             None => Ok(Moved::Stops(Stop::Trap(1))),
             Some(index) => {
-                let at = element_cell(self.base, place, index)?;
+                let at = element_cell(self.base, place, index);
                 let old = held(&self.memory, at);
                 self.ask(code, input, Expects::ChangeAt(at, op, old), e)
             }
@@ -209,14 +202,15 @@ impl Machine {
         expects: Expects,
         z: i64,
     ) -> Result<Moved, Memory>
-        requires { IsWidth code.now.bits }
+        requires width { IsWidth code.now.bits }
+        requires small { IsSmallFrame (expected code.now.nodes.items expects) }
         ensures { IfOk result (λ r. Comes code.now input.now self.old self.new r (λ p n w k s. step_give p n (expected code.now.nodes.items expects ∷ k) z w s)) }
     {
         let n = code.bits;
         match expects {
-            Expects::Element(place, length) => self.give_element(code, input, place, length, z),
+            Expects::Element(place, length) => Ok(self.give_element(code, input, place, length, z)),
             Expects::Unary(op) => Ok(self.go(code, input, Task::Give(prefixed(n, op, z)))),
-            Expects::Shifted(op, k) => self.give_shifted(code, input, op, k, z),
+            Expects::Shifted(op, k) => Ok(self.give_shifted(code, input, op, k, z)),
             Expects::ArithmeticRight(op, y) => {
                 self.ask(code, input, Expects::ArithmeticLeft(op, z), y)
             }
@@ -234,7 +228,7 @@ impl Machine {
             Expects::Argument(xs) => {
                 self.wait(code, input, Pending::Passed(z), Task::Arguments(xs))
             }
-            Expects::SetTo(place) => self.set(code, input, place, z),
+            Expects::SetTo(place) => Ok(self.set(code, input, place, z)),
             Expects::StoreIndex(place, length, e) => {
                 self.ask_stored(code, input, place, length, e, z)
             }
@@ -261,7 +255,8 @@ impl Machine {
         pending: Pending,
         z: i64,
     ) -> Result<Moved, Memory>
-        requires { IsWidth code.now.bits }
+        requires width { IsWidth code.now.bits }
+        requires small { IsSmallFrame (frame_of code.now.nodes.items pending) }
         ensures { IfOk result (λ r. Comes code.now input.now self.old self.new r (λ p n w k s. step_give p n (frame_of code.now.nodes.items pending ∷ k) z w s)) }
     {
         match pending {
@@ -278,7 +273,8 @@ impl Machine {
 
     /// Gives a number to what waits, one step. The one error is want of memory.
     pub fn give(&mut self, code: &Code, input: &[i64], z: i64) -> Result<Moved, Memory>
-        requires { IsWidth code.now.bits }
+        requires width { IsWidth code.now.bits }
+        requires small { AreSmallFrames (frames_of code.now.nodes.items self.old.frames.items) }
         ensures { IfOk result (λ r. Comes code.now input.now self.old self.new r (λ p n w k s. step_give p n k z w s)) }
     {
         match self.frames.pop() {

@@ -1,5 +1,6 @@
 //! What a machine has in hand, and what waits behind that.
 
+use crate::data::Cell;
 use c_tree::Place;
 use ir_core::{Arith, Prefix, Rel, Shift};
 use nk_outside::Stop;
@@ -40,9 +41,9 @@ pub enum Expects {
     Argument(usize),
     SetTo(Place),
     StoreIndex(Place, u64, usize),
-    StoreAt(u128),
+    StoreAt(Cell),
     ChangeIndex(Place, u64, Arith, usize),
-    ChangeAt(u128, Arith, i64),
+    ChangeAt(Cell, Arith, i64),
     Show,
     /// The value isn't used.
     Forget,

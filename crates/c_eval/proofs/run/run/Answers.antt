@@ -8,7 +8,7 @@ use Rattle.c_eval.proofs.run.run.Goals as goal
 
 pub loop-stop-init : goal.loop-stop-init
 loop-stop-init g c = record {
-  runs = begun (resolved c.args.p.now.0) c.args.code.now c.args.input.now c.args.machine.now c.args.machine.now.turns (g.S.Sink.taken c.args.sink.now) c.requires.begins;
+  runs = begun (resolved c.args.p.now.0) c.args.code.now c.args.input.now c.args.machine.now c.args.machine.now.turns (g.S.Sink.taken c.args.sink.now) c.requires.small c.requires.begins;
   same = refl;
 }
 

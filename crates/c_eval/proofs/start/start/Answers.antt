@@ -1,6 +1,6 @@
 use Rattle.std.proofs.Common.{◌≡◌, ◌+◌, ◌-◌, ◌++◌, [], ap, sym, ◌∙◌, arith, pos, length, map, replicate, reverse, refl, subst, append-nil}
 use Rattle.std.specs.List.{flat_map}
-use Rattle.c_tree.specs.Items.{item}
+use Rattle.c_tree.specs.Items.{item, items}
 use Rattle.c_tree.specs.Names.{first_names}
 use Rattle.c_tree.specs.Resolve.{resolved, resolved_items, resolved_functions}
 use Rattle.c_tree.specs.Meaning.{global_cells, function_cells, main_functions, all_functions, initial_cells}
@@ -10,7 +10,14 @@ use Rattle.c_machine.specs.Stands.{IsCode, config_of, work_of}
 use Rattle.c_eval.specs.Laid.{cells_of_global, main_of, main_cells, others_cells, task_of, entries_of}
 use Rattle.c_machine.specs.declared.code.Code.{Code}
 use Rattle.c_eval.proofs.LaidOut.{Same, main_is, main_cells_are, cells_of_globals, base_is, function_count, work_is, begins_so, code_is, first_main}
+use Rattle.c_eval.proofs.Accepted.{program_small, starts_small}
 use Rattle.c_eval.proofs.start.start.Goals as goal
+
+pub push_globals-requires : goal.push_globals-requires
+push_globals-requires c = rw c.as_slice-globals.ensures (starts_small c.p.inside.n (omega (arith, c.p.invariant.2)) (first_names (items c.p.inside.tree)) c.p.inside.tree.globals c.p.invariant.0.faultless)
+
+pub returns-clause-small : goal.returns-clause-small
+returns-clause-small c = rw (← c.p.view_is) (program_small c.p.inside.n (omega (arith, c.p.invariant.2)) c.p.inside.tree c.p.invariant.0)
 
 pub returns-clause-code : goal.returns-clause-code
 returns-clause-code c =
