@@ -76,6 +76,23 @@ pub above : (room : ℕ) → (room ≡ 0 → ⊥) → room ≡ suc (room - 1)
 above zero some = absurd (some refl)
 above (suc room) some = omega arith
 
+pub one_above : (room : ℕ) → 1 ≤ room → room ≡ suc (room - 1)
+one_above room some = omega (arith, some)
+
+some_room : (room : ℕ) → (room ≡ 0 → ⊥) → 1 ≤ room
+some_room zero some = absurd (some refl)
+some_room (suc room) some = omega arith
+
+pub some_below : (room : ℕ) → 1 ≤ room → (room ≡ 1 → ⊥) → 1 ≤ room - 1
+some_below zero some more = absurd (omega (arith, some))
+some_below (suc zero) some more = absurd (more refl)
+some_below (suc (suc room)) some more = omega arith
+
+pub two_above : (room : ℕ) → 1 ≤ room → (room ≡ 1 → ⊥) → room ≡ suc (suc (room - 2))
+two_above zero some more = absurd (omega (arith, some))
+two_above (suc zero) some more = absurd (more refl)
+two_above (suc (suc room)) some more = omega arith
+
 abbrev ended_act : ℕ → Name → Reading (Act × ℕ)
 ended_act below x = act_behind below x >>> sign (codes ";")
 
@@ -143,9 +160,9 @@ pub node_narrow : (room : ℕ) (here : List Sign) (at : ℕ) (text : List ℕ) (
 node_narrow room here at text ss zero_is none = stuck_at room here at text ss (no_start room text zero_is none)
 
 -- no statement begins so
-pub node_unknown : (room : ℕ) (here : List Sign) (at : ℕ) (text : List ℕ) (ss : List Symbol) → 1 ≤ room → None ≡ looked_up (statement_starts 0) text
+pub node_unknown : (room : ℕ) (here : List Sign) (at : ℕ) (text : List ℕ) (ss : List Symbol) → (room ≡ 0 → ⊥) → None ≡ looked_up (statement_starts 0) text
     → None ≡ looked_up node_starts text → Fails (stops.Stuck (length here)) (begins room (map seen here) at text) ss
-node_unknown room here at text ss some none e = stuck_at room here at text ss (node_start room text None some none e)
+node_unknown room here at text ss some none e = stuck_at room here at text ss (node_start room text None (some_room room some) none e)
 
 -- ---- statements of their parts
 
@@ -165,10 +182,16 @@ unfolding block_body
 narrow_block room n ss one = rw one refl
 
 -- a block with room for nothing
-pub block_narrow : {A : Type 0} (found : A → Read (Body × ℕ)) (r : Result A Stop) (room : ℕ) (ss : List Symbol) → room ≡ 1
-    → Says found r (made (λ q. (Nothing, q)) (sign (codes "}"))) ss → Says found r (block_body room) ss
-block_narrow found r room ss one h =
-    says_alike found r (made (λ q. (Nothing, q)) (sign (codes "}"))) (block_body room) ss ss (λ n. narrow_block room n ss one) h
+pub block_narrow : (room : ℕ) (ss : List Symbol) (ps : List Part) (q : ℕ) (r : List Symbol) → room ≡ 1 → ps ≡ [] → Comes (sign (codes "}")) ss (Found q r)
+    → Comes (block_body room) ss (Found (body ps, q) r)
+block_narrow room ss ps q r one none h =
+    alike (made (λ q. (Nothing, q)) (sign (codes "}"))) (block_body room) ss ss (Found (body ps, q) r) (λ n. narrow_block room n ss one)
+    (subst (λ b. Comes {A = Body × ℕ} (made (λ q. (Nothing, q)) (sign (codes "}"))) ss (Found (b, q) r)) (sym (ap body none)) (makes (λ q. (Nothing, q)) (sign (codes "}")) ss q r h))
+
+pub block_narrow_fails : (stop : Stop) (room : ℕ) (ss : List Symbol) → room ≡ 1 → Fails stop (sign (codes "}")) ss → Fails stop (block_body room) ss
+block_narrow_fails stop room ss one h =
+    fails_alike stop (block_body room) (made (λ q. (Nothing, q)) (sign (codes "}"))) ss ss (λ n. narrow_block room n ss one)
+    (fails_made stop (λ q. (Nothing, q)) (sign (codes "}")) ss h)
 
 wide_block : (below n : ℕ) (ss : List Symbol) → 1 ≤ below → block_body (suc below) n ss ≡ closed_body (part_within below) n ss
 unfolding block_body
