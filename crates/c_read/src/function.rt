@@ -31,18 +31,18 @@ pub enum Start {
 /// A function, behind `NAME (`.
 pub fn function<'t, 'a>(
     alloc: Global,
-    result: ResultWord,
+    word: ResultWord,
     name: Name,
     opening: u32,
     signs: &'t [Sign<'a>],
 ) -> Result<(CGlobal, &'t [Sign<'a>]), Stop>
-    ensures says { Says (λ x. Found (tree.item x.0) (map seen x.1.now)) result (function_read block_room result name opening) (map seen signs.now) }
+    ensures says { Says (λ x. Found (tree.item x.0) (map seen x.1.now)) result (function_read block_room word name opening) (map seen signs.now) }
     ensures shorter { IfOk result (λ x. length x.1.now < length signs.now) }
 {
     let (params, closing, rest) = parameters(alloc, signs)?;
     let (body, rest) = braced(alloc, rest)?;
     let function = Function {
-        result,
+        result: word,
         name,
         opening,
         params,
@@ -78,14 +78,14 @@ fn parameters<'t, 'a>(
     let Some((at, text, rest)) = fixed(signs) else {
         return Err(Stop::Stuck(signs.len()));
     };
-    match start(text) {
+    match start_begun(text) {
         Some(start) => started(alloc, start, at, rest),
         None => Err(Stop::Stuck(signs.len())),
     }
 }
 
 /// What this keyword or mark begins.
-fn start(text: &[u8]) -> Option<Start>
+fn start_begun(text: &[u8]) -> Option<Start>
     ensures { option_map start_of result ≡ looked_up spec.starts text.now }
 {
     if text == b")".as_slice() {

@@ -29,7 +29,7 @@ pub fn item<'t, 'a>(alloc: Global, signs: &'t [Sign<'a>]) -> Result<(CGlobal, &'
     let Some((at, text, rest)) = fixed(signs) else {
         return Err(Stop::Stuck(signs.len()));
     };
-    match opening(text) {
+    match begun_by(text) {
         Some(Opening::Valued) => valued(alloc, at, rest),
         Some(Opening::Valueless) => valueless(alloc, at, rest),
         None => Err(Stop::Stuck(signs.len())),
@@ -37,7 +37,7 @@ pub fn item<'t, 'a>(alloc: Global, signs: &'t [Sign<'a>]) -> Result<(CGlobal, &'
 }
 
 /// What this keyword begins.
-fn opening(text: &[u8]) -> Option<Opening>
+fn begun_by(text: &[u8]) -> Option<Opening>
     ensures { option_map opening_of result ≡ looked_up spec.item_starts text.now }
 {
     if text == b"int".as_slice() {
@@ -61,8 +61,8 @@ fn valued<'t, 'a>(
     let (name, rest) = name(alloc, signs)?;
     match behind(b"(", rest) {
         Some((opening, rest)) => {
-            let result = ResultWord::Type(TypeWord::Int(at));
-            function(alloc, result, name, opening, rest)
+            let word = ResultWord::Type(TypeWord::Int(at));
+            function(alloc, word, name, opening, rest)
         }
         None => variables(alloc, at, name, rest),
     }

@@ -166,9 +166,7 @@ fn array<'t, 'a>(
 }
 
 /// The initial values in one row, as a tree has them.
-fn row(
-    initials: Option<(u32, Listed)>,
-) -> Option<(u32, u32, SNum, Items<(u32, SNum)>, u32)>
+fn row(initials: Option<(u32, Listed)>) -> Option<(u32, u32, SNum, Items<(u32, SNum)>, u32)>
     ensures { result ≡ spec.row (option_map (λ x. (x.0, listed_of x.1)) initials) }
 {
     let (at, listed) = initials?;
@@ -191,7 +189,7 @@ fn initials<'t, 'a>(
 {
     match behind(b"=", signs) {
         Some((at, rest)) => {
-            let (listed, rest) = listed(alloc, rest)?;
+            let (listed, rest) = listing(alloc, rest)?;
             Ok((Some((at, listed)), rest))
         }
         None => Ok((None, signs)),
@@ -199,7 +197,7 @@ fn initials<'t, 'a>(
 }
 
 /// `{ n , n }`.
-fn listed<'t, 'a>(alloc: Global, signs: &'t [Sign<'a>]) -> Result<(Listed, &'t [Sign<'a>]), Stop>
+fn listing<'t, 'a>(alloc: Global, signs: &'t [Sign<'a>]) -> Result<(Listed, &'t [Sign<'a>]), Stop>
     ensures says { Says (λ x. Found (listed_of x.0) (map seen x.1.now)) result spec.listed (map seen signs.now) }
     ensures shorter { IfOk result (λ x. length x.1.now < length signs.now) }
 {
