@@ -4,6 +4,7 @@ ghost use Rattle.readings.specs.Reading.{Found};
 ghost use Rattle.readings.specs.Seen.{seen, Says};
 ghost use Rattle.readings.specs.Symbol.{first_place, place};
 ghost use Rattle.c_tree.specs.Items as tree;
+ghost use Rattle.c_tree.specs.declared.fault.CFault.TheVariants as faults;
 ghost use Rattle.c_grammar.specs.Programs.{program_read};
 ghost use Rattle.c_grammar.specs.Trees.{IsTree, IsReadFault};
 
@@ -28,7 +29,7 @@ pub fn read(alloc: Global, bytes: &[u8]) -> Result<CTree, CFault>
 {
     let tokens = match lex(alloc, bytes) {
         Ok(tokens) => tokens,
-        Err(LexFault::Stuck { at }) => return Err(CFault::Lex { at: at as u32 }),
+        Err(LexFault::Stuck { at }) => return Err(no_token(at)),
         Err(LexFault::Memory) => return Err(CFault::Memory),
     };
     if let Some(at) = first_outside(&tokens.list) {
@@ -43,6 +44,14 @@ pub fn read(alloc: Global, bytes: &[u8]) -> Result<CTree, CFault>
         }
         Err(Stop::Memory) => Err(CFault::Memory),
     }
+}
+
+/// The fault of bytes that begin no token at this place.
+fn no_token(at: u64) -> CFault
+    requires { at ≤ 4194304 }
+    ensures { result ≡ faults.Lex at }
+{
+    CFault::Lex { at: at as u32 }
 }
 
 /// The globals, to the end of the symbols.
