@@ -1,5 +1,5 @@
 -- What the reader keeps, as definitions see it. Private: its contracts cite it.
-use Rattle.std.specs.Prelude.{◌≡◌, ℕ, List, [], IsTrue, IsFalse}
+use Rattle.std.specs.Prelude.{ℕ, List, IsTrue, IsFalse}
 use Rattle.c_lex.specs.Form.{is_token, is_within, is_outside}
 use Rattle.nml_lex.specs.Lexed.{Lexeme}
 use Rattle.c_tree.specs.declared.program.SNum.{SNum}

@@ -1,8 +1,8 @@
 -- Things up to a mark, as a loop keeps them, and a thing or none up to a mark.
-use Rattle.std.proofs.Common.{ℕ, List, [], ◌∷◌, ◌++◌, length, map, Option, Some, None, ◌≡◌, ◌≤◌, refl, sym, ◌∙◌, ap, subst, arith}
+use Rattle.std.proofs.Common.{ℕ, List, [], ◌∷◌, ◌++◌, length, map, Option, Some, None, ◌≡◌, ◌≤◌, sym, ◌∙◌, ap, subst, arith}
 use Rattle.std.proofs.lemmas.List.{map-append}
 use Rattle.readings.specs.Symbol.{Symbol}
-use Rattle.readings.specs.Reading.{Read, Found, behind}
+use Rattle.readings.specs.Reading.{Found, behind}
 use Rattle.readings.specs.Readings.{Reading, ◌>>>◌, made, sign}
 use Rattle.readings.specs.declared.sign.Sign.{Sign}
 use Rattle.readings.specs.declared.stop.Stop.{Stop}

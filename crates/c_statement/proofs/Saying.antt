@@ -1,20 +1,20 @@
 -- What is said of simple statements and declarations.
-use Rattle.std.proofs.Common.{ℕ, zero, suc, List, [], ◌∷◌, map, length, Option, Some, None, codes, ◌≡◌, ◌≤◌, ◌<◌, refl, sym, ◌∙◌, ap, subst, arith}
+use Rattle.std.proofs.Common.{ℕ, zero, suc, List, map, length, Some, None, codes, ◌≡◌, ◌<◌, refl, sym, ap, arith}
 use Rattle.std.specs.Prelude.{Result}
 use Rattle.c_tree.specs.declared.names.Name.{Name}
 use Rattle.readings.specs.Symbol.{Symbol}
-use Rattle.readings.specs.Reading.{Read, Found, Stuck, Unread, read_on, behind, mark}
-use Rattle.readings.specs.Readings.{Reading, ◌>>>◌, made, sign}
+use Rattle.readings.specs.Reading.{Read, Found, Stuck, Unread, read_on, behind}
+use Rattle.readings.specs.Readings.{Reading, ◌>>>◌, made}
 use Rattle.readings.specs.declared.sign.Sign.{Sign}
 use Rattle.readings.specs.declared.stop.Stop.{Stop}
 use Rattle.readings.specs.declared.stop.Stop.TheVariants as stops
 use Rattle.readings.specs.Seen.{seen, Comes, Fails, Says}
 use Rattle.readings.proofs.Saying.{alike, at_once, comes_later, fails_alike, fails_later, fails_now, says_alike, says_later}
-use Rattle.c_tree.specs.Formula.{Formula, Called}
+use Rattle.c_tree.specs.Formula.{Called}
 use Rattle.c_tree.specs.Statement.{Act, Invoke, Variable, Scalar}
 use Rattle.c_grammar.specs.Calls.{called_within, called_from, with_arguments}
 use Rattle.c_grammar.specs.Acts.{act_marks}
-use Rattle.c_grammar.specs.Declarations.{variable_within, variable_behind, variable_read, plain_variable, without_initial, initial_from, array_from, initial, array}
+use Rattle.c_grammar.specs.Declarations.{variable_within, variable_behind, without_initial, initial_from, array_from, initial, array}
 use Rattle.c_grammar.specs.Words.{name}
 use Rattle.c_statement.proofs.Words.{stuck_here}
 

@@ -1,5 +1,5 @@
 -- What is said of statements and of what stands in a block.
-use Rattle.std.proofs.Common.{ℕ, zero, suc, List, [], ◌∷◌, map, length, Option, Some, None, codes, ◌≡◌, ◌-◌, ◌≤◌, ◌<◌, refl, sym, ◌∙◌, ap, subst, arith}
+use Rattle.std.proofs.Common.{ℕ, zero, suc, List, [], ◌∷◌, map, length, Option, Some, None, codes, ◌≡◌, ◌-◌, ◌≤◌, refl, sym, ◌∙◌, ap, subst, arith}
 use Rattle.std.specs.Prelude.{Result, option_map}
 use Rattle.std.proofs.lemmas.List.{length-map}
 use Rattle.c_tree.specs.declared.names.Name.{Name}
@@ -10,22 +10,22 @@ use Rattle.c_tree.specs.declared.statement.Part.TheVariants as p
 use Rattle.c_tree.specs.declared.statement.Stmt.{Stmt}
 use Rattle.c_tree.specs.declared.statement.Stmt.TheVariants as s
 use Rattle.readings.specs.Symbol.{Symbol}
-use Rattle.readings.specs.Reading.{Read, Found, Stuck, Unread, read_on, behind, looked_up, mark}
+use Rattle.readings.specs.Reading.{Read, Found, Stuck, Unread, read_on, behind, looked_up}
 use Rattle.readings.specs.Readings.{Reading, ◌>>>◌, made, sign, worded_from}
 use Rattle.readings.specs.declared.sign.Sign.{Sign}
 use Rattle.readings.specs.declared.stop.Stop.{Stop}
 use Rattle.readings.specs.declared.stop.Stop.TheVariants as stops
 use Rattle.readings.specs.Seen.{seen, Comes, Fails, Says}
 use Rattle.readings.proofs.Saying.{alike, at_once, comes_later, fails_alike, fails_later, fails_made, makes, says_alike}
-use Rattle.c_tree.specs.Formula.{Formula, formula}
-use Rattle.c_tree.specs.Statement.{Act, Declaration, Statement, Simply, Braces, If, IfElse, Body, Nothing, Declare, Then, body, chained, declaration, part, statement}
+use Rattle.c_tree.specs.Formula.{formula}
+use Rattle.c_tree.specs.Statement.{Act, Statement, Simply, Braces, Body, Nothing, Declare, Then, body, chained, declaration, part, statement}
 use Rattle.c_tree.proofs.StatementLaws.{part-Decl, part-Stmt, block_is, statement-Block, statement-If, statement-If_else}
 use Rattle.c_grammar.specs.Words.{name}
 use Rattle.c_grammar.specs.Acts.{act_behind}
 use Rattle.c_grammar.specs.Declarations.{declaration_read}
 use Rattle.c_grammar.specs.Until.{until, until_from}
 use Rattle.c_grammar.specs.Statements.{BodyPart, Declaring, Stating, body_of, closed_body}
-use Rattle.c_grammar.specs.ReadingStatements.{StatementStart, Condition, statement_starts, branch, behind_statement, part_from, body_read, statement_over, statement_read, block_body}
+use Rattle.c_grammar.specs.ReadingStatements.{StatementStart, statement_starts, branch, part_from, statement_read, block_body}
 use Rattle.c_statement.specs.Seen.{HasNoWord, before, boxed_of, named_within, node_starts, part_within, statement_behind}
 use Rattle.c_statement.proofs.Gathering.{Gathers, gathers_end, gathers_fails}
 use Rattle.c_statement.proofs.Saying.{made_twice}

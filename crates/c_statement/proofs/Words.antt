@@ -1,5 +1,5 @@
 -- What begins with one of some words, where the first symbol is a word or is none.
-use Rattle.std.proofs.Common.{ℕ, List, [], ◌∷◌, ◌++◌, length, map, Bool, true, false, Option, Some, None, if◌then◌else◌, ◌≡◌, refl, sym, ◌∙◌, ap, subst}
+use Rattle.std.proofs.Common.{ℕ, List, [], ◌∷◌, ◌++◌, length, map, Bool, true, false, Option, Some, None, if◌then◌else◌, ◌≡◌, refl, sym, ap, subst}
 use Rattle.std.specs.Prelude.{Result}
 use Rattle.std.proofs.lemmas.List.{length-map}
 use Rattle.nk_base.specs.Text.{text_eq}
@@ -9,7 +9,7 @@ use Rattle.readings.specs.Readings.{Reading, worded, worded_from}
 use Rattle.readings.specs.declared.sign.Sign.{Sign}
 use Rattle.readings.specs.declared.stop.Stop.{Stop}
 use Rattle.readings.specs.declared.stop.Stop.TheVariants as stops
-use Rattle.readings.specs.Seen.{seen, Comes, Fails, Says}
+use Rattle.readings.specs.Seen.{seen, Fails, Says}
 use Rattle.readings.proofs.Saying.{at_once, says_alike}
 use Rattle.c_statement.specs.Seen.{HasNoWord}
 

@@ -1,16 +1,14 @@
 -- What the reader keeps, as definitions see it, and readings by what the reader has. Private: contracts of the reader cite it.
-use Rattle.std.specs.Prelude.{ℕ, zero, suc, List, [], ◌∷◌, Option, Some, None, map, option_map, codes}
-use Rattle.c_tree.specs.declared.names.Name.{Name}
-use Rattle.c_tree.specs.declared.expression.Expr.{Expr}
+use Rattle.std.specs.Prelude.{ℕ, zero, suc, List, [], ◌∷◌, Option, map, option_map, codes}
 use Rattle.c_tree.specs.declared.statement.AssignMark.TheVariants as store
 use Rattle.c_tree.specs.declared.statement.StepMark.TheVariants as change
 use Rattle.c_tree.specs.declared.statement.LVar.{LVar}
 use Rattle.c_tree.specs.declared.statement.Stmt.{Stmt}
 use Rattle.readings.specs.Symbol.{Symbol}
-use Rattle.readings.specs.Reading.{Read, Stuck, read_on}
+use Rattle.readings.specs.Reading.{Stuck, read_on}
 use Rattle.readings.specs.Readings.{Reading, ◌>>>◌, made, sign}
 use Rattle.c_tree.specs.Formula.{Formula, formula}
-use Rattle.c_tree.specs.Statement.{Act, Variable, Opening, Statement, Simply, For, Body, Declare, Then, act, variable, opening, statement}
+use Rattle.c_tree.specs.Statement.{Act, Variable, Statement, Simply, For, Body, Declare, Then, act, variable, opening, statement}
 use Rattle.c_grammar.specs.Words.{name}
 use Rattle.c_grammar.specs.Acts.{Deed, DeedMark, Storing, Changing, ActMark, Calling, Indexing, Doing, Stores, Changes, act_behind}
 use Rattle.c_grammar.specs.Statements.{BodyPart, Declaring, Stating}

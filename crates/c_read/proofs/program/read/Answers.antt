@@ -6,7 +6,7 @@ use Rattle.c_lex.specs.Lexed.{HasLexemes, IsLexFault, IsStuckAt}
 use Rattle.readings.specs.Seen.{seen, Fails}
 use Rattle.readings.specs.Symbol.{first_place}
 use Rattle.c_grammar.specs.Programs.{program_read}
-use Rattle.c_grammar.specs.Trees.{outside_places, IsReadFault, HasNoTree}
+use Rattle.c_grammar.specs.Trees.{outside_places, IsReadFault}
 use Rattle.c_read.proofs.ReadBytes.{sound_tokens, stuck_within, is_tree, has_no_tree}
 use Rattle.c_read.proofs.program.read.Goals as goal
 

@@ -1,8 +1,6 @@
 -- No other symbol is one.
 use Rattle.std.proofs.Common.{◌∷◌, ◌∙◌, ap, refl}
 use Rattle.readings.proofs.Fronts.{comes_stuck}
-use Rattle.c_statement.proofs.SayingParts.{states}
-use Rattle.c_statement.proofs.Saying.{scalar_comes}
 use Rattle.c_grammar.specs.Words as spec
 use Rattle.readings.specs.declared.sign.Sign.TheVariants as lent
 use Rattle.c_statement.proofs.front.number.Goals as goal

@@ -1,5 +1,5 @@
 -- Each part of a statement stands behind the one before it, and each part of a block behind those so far.
-use Rattle.std.proofs.Common.{codes, map, ap, arith}
+use Rattle.std.proofs.Common.{codes, map, arith}
 use Rattle.std.proofs.lemmas.Result.{err_from_is_err_and}
 use Rattle.readings.specs.Readings.{◌>>>◌, optional, sign}
 use Rattle.readings.specs.Seen.{seen}
@@ -114,11 +114,10 @@ parts-returns-in_err-part-clause-says t c =
     rw (p.1, p.2) (parts_fail _ _ _ _ _ c.loop-closing.invariant.0 c.in_default.ensures.behind c.in_err-part.ensures.says)
 
 pub parts-loop-closing-preserved : goal.parts-loop-closing-preserved
-parts-loop-closing-preserved t c =
-    (
-      gathers_step _ _ _ _ _ _ _ _ _ c.in_ok-push.ensures.ok c.loop-closing.invariant.0 c.in_default.ensures.behind c.in_ok-part.ensures.says,
-      omega (arith, c.loop-closing.invariant.1, c.in_ok-part.ensures.shorter),
-    )
+parts-loop-closing-preserved t c = (
+  gathers_step _ _ _ _ _ _ _ _ _ c.in_ok-push.ensures.ok c.loop-closing.invariant.0 c.in_default.ensures.behind c.in_ok-part.ensures.says,
+  omega (arith, c.loop-closing.invariant.1, c.in_ok-part.ensures.shorter),
+)
 
 pub repeating-returns-in_err-while_at-clause-says : goal.repeating-returns-in_err-while_at-clause-says
 repeating-returns-in_err-while_at-clause-says t c =
@@ -141,4 +140,3 @@ statement-returns-in-None-clause-says t c =
 pub stating-returns-clause-says : goal.stating-returns-clause-says
 stating-returns-clause-says t c =
     states _ _ _ _ c.in_ok-stmt.ensures.says
-
