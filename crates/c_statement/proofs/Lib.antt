@@ -1,2 +1,4 @@
-pub mod Turns
-pub mod Others
+pub mod Gathering
+pub mod Words
+pub mod Saying
+pub mod SayingParts

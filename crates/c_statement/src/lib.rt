@@ -1,8 +1,14 @@
-//! Expressions of a program, from symbols.
+//! Statements of a program, its blocks, and its single symbols, from symbols.
 #![tactic(auto)]
 
-mod beginning;
-mod expression;
-mod operator;
+mod act;
+mod call;
+mod closed;
+mod declaration;
+mod front;
+mod header;
+mod start;
+mod statement;
 
-pub use expression::whole;
+pub use front::{fixed, name, number, type_word};
+pub use statement::block;

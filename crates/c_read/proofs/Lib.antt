@@ -1,0 +1,4 @@
+pub mod Signs
+pub mod ReadBytes
+pub mod OneReading
+pub mod Gathered
