@@ -7,3 +7,4 @@ pub mod Places
 pub mod Have
 pub mod Pairs
 pub mod Labels
+pub mod Few

@@ -1,11 +1,17 @@
 //! All shapes of a description.
 
-ghost use Rattle.std.specs.Prelude.{MatchResult};
+ghost use Rattle.std.specs.Prelude.{◌≡◌, IfOk, IsFalse, IsTrue, MatchResult};
+ghost use Rattle.nml_tree.specs.Refused.{IsFreeBelow};
+ghost use Rattle.nml_tree.specs.Shapes.{AreCounts, AreTooMany};
+ghost use Rattle.nml_tree.specs.Table.{table};
 ghost use Rattle.shape_table.specs.Shapes.{HasShapes, IsShapeFault};
 
 use nk_base::Memory;
+use nml_known::Names;
 use nml_shape::Shape;
 use nml_tree::Typed;
+use shape_count::{Counts, count_shapes};
+use shape_list::all_shapes;
 use std::alloc::Global;
 
 /// Why the shapes of a description aren't listed.
@@ -37,5 +43,33 @@ impl From<Memory> for ShapeFault {
 pub fn shapes(alloc: Global, d: &Typed) -> Result<Vec<Shape>, ShapeFault>
     ensures { MatchResult result (λ all. HasShapes d.now all.items) (IsShapeFault d.now) }
 {
-    Err(ShapeFault::Memory)
+    let names = Names::new(alloc, &d.desc)?;
+    let found = counted(alloc, &names)?;
+    if are_too_many(found) {
+        return Err(ShapeFault::Many {
+            count: found.count,
+            nodes: found.nodes,
+            size: found.size,
+        });
+    }
+    Ok(all_shapes(alloc, &names)?)
+}
+
+/// How many shapes there are, and how large ones.
+fn counted(alloc: Global, names: &Names<'_>) -> Result<Counts, Memory>
+    requires { IsFreeBelow 12 names.now }
+    ensures { IfOk result (λ c. AreCounts (table names.now) c.count c.nodes c.size) }
+{
+    match names.order(alloc)? {
+        None => Err(Memory), // no rule of a typed description reaches itself
+        Some(order) => count_shapes(alloc, names, order.as_slice()),
+    }
+}
+
+/// Whether one of the numbers is too great.
+fn are_too_many(c: Counts) -> bool
+    ensures over { IsTrue result → AreTooMany c.count c.nodes c.size }
+    ensures within { IsFalse result → AreTooMany c.count c.nodes c.size → ⊥ }
+{
+    c.count > 4096 || c.nodes > 256 || c.size > 1024
 }
