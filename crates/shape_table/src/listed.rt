@@ -1,7 +1,7 @@
 //! All shapes of a description.
 
 ghost use Rattle.std.specs.Prelude.{◌≡◌, IfOk, IsFalse, IsTrue, MatchResult};
-ghost use Rattle.nml_tree.specs.Refused.{IsFreeBelow};
+ghost use Rattle.nml_tree.specs.Refused.{IsFreeBelow, IsTyped};
 ghost use Rattle.nml_tree.specs.Shapes.{AreCounts, AreTooMany};
 ghost use Rattle.nml_tree.specs.Table.{table};
 ghost use Rattle.shape_table.specs.Shapes.{HasShapes, IsShapeFault};
@@ -44,7 +44,15 @@ pub fn shapes(alloc: Global, d: &Typed) -> Result<Vec<Shape>, ShapeFault>
     ensures { MatchResult result (λ all. HasShapes d.now all.items) (IsShapeFault d.now) }
 {
     let names = Names::new(alloc, &d.desc)?;
-    let found = counted(alloc, &names)?;
+    list_counted(alloc, &names)
+}
+
+/// All shapes, counted and then listed.
+fn list_counted(alloc: Global, names: &Names<'_>) -> Result<Vec<Shape>, ShapeFault>
+    requires { IsTyped names.now }
+    ensures { MatchResult result (λ all. HasShapes names.now all.items) (IsShapeFault names.now) }
+{
+    let found = counted(alloc, names)?;
     if are_too_many(found) {
         return Err(ShapeFault::Many {
             count: found.count,
@@ -52,7 +60,7 @@ pub fn shapes(alloc: Global, d: &Typed) -> Result<Vec<Shape>, ShapeFault>
             size: found.size,
         });
     }
-    Ok(all_shapes(alloc, &names)?)
+    Ok(all_shapes(alloc, names)?)
 }
 
 /// How many shapes there are, and how large ones.
