@@ -1,10 +1,9 @@
 -- What the code finds of a key is the greatest of what its rule's derivations come to.
-use Rattle.std.proofs.Common.{ℕ, zero, suc, ◌≡◌, ◌≤◌, ◌<◌, ◌+◌, ◌*◌, min, max, pos, refl, sym, ◌∙◌, ap, subst, arith, Bool, true, false, cond, List, [], ◌∷◌, map, length, slice_get, Option, Some, None, option_map, Contains, codes, inl, inr, true≢false, IfOk, Result, Ok, Err}
+use Rattle.std.proofs.Common.{ℕ, zero, suc, ◌≡◌, ◌≤◌, ◌+◌, ◌*◌, max, refl, sym, ◌∙◌, ap, subst, arith, Bool, true, false, cond, List, [], ◌∷◌, map, length, slice_get, Option, Some, None, option_map, Contains, codes, inl, inr, true≢false, IfOk, Result, Ok, Err}
 use Rattle.std.specs.Prelude.{unwrap_or, ◌==◌, ◌&&◌, IfSome, if◌then◌else◌}
 use Rattle.std.specs.List.{AllByRecursion}
 use Rattle.std.proofs.lemmas.Bool.Decides.{Decides-eqb}
 use Rattle.std.proofs.Math.Nat.{mul_assoc, add-mul, mul-add, mul-le-mul_left}
-use Rattle.std.specs.Map.{lookup}
 use Rattle.indexmap.specs.IndexMap.{insert_entry}
 use Rattle.nml_tree.specs.declared.tree.Par.{Par}
 use Rattle.nml_tree.specs.declared.tree.Item.{Item}
@@ -13,16 +12,15 @@ use Rattle.nml_tree.specs.declared.tree.Desc.{Desc}
 use Rattle.nml_tree.specs.declared.tree.OrRule.{OrRule}
 use Rattle.nml_tree.specs.declared.tree.OpRule.{OpRule}
 use Rattle.nml_tree.specs.declared.tree.ModeRule.{ModeRule}
-use Rattle.nml_tree.specs.Formula.{formula}
 use Rattle.nml_tree.specs.NameFault as kind
 use Rattle.nml_tree.specs.Table.{Text, Table, Rule, Declared, Parameter, declared, table, parameter_of, is_mode_word, pars_of}
-use Rattle.nml_tree.specs.Derivation.{Derivation, Arguments, Pick, Compose, NoMore, Part, Field, IsDerivation, Fill}
+use Rattle.nml_tree.specs.Derivation.{Derivation, Arguments, Compose, NoMore, Part, Field, IsDerivation, Fill}
 use Rattle.nml_tree.specs.Exec.{storages}
 use Rattle.nml_tree.specs.Refused.{IsFreeBelow}
 use Rattle.nml_tree.specs.Shapes.{term_size, act_size, counted, size_of_action, IsGreatest}
 use Rattle.nml_tree.specs.Valid.{IsRoot}
 use Rattle.nml_tree.specs.Written.{written}
-use Rattle.nml_names.proofs.Cycles.{RuleAt, declared_here, below_length}
+use Rattle.nml_names.proofs.Cycles.{declared_here, below_length}
 use Rattle.nml_names.proofs.RuleNames.{first_item, some_same}
 use Rattle.nml_known.specs.Known.{item_number, parameter_told}
 use Rattle.nml_upward.specs.Upward.{IsRule, HasNumber, IsParameter, AreMade}

@@ -1,21 +1,19 @@
 -- What is counted of a rule's value and of its action together: so many times the one, and so many times the other. For private contracts.
-use Rattle.std.specs.Prelude.{ℕ, if◌then◌else◌, zero, suc, ◌≡◌, ◌==◌, ◌+◌, ◌*◌, max, Bool, ◌&&◌, List, [], ◌∷◌, map, length, slice_get, Option, Some, None, option_map, unwrap_or, replicate}
+use Rattle.std.specs.Prelude.{ℕ, if◌then◌else◌, ◌≡◌, ◌==◌, ◌+◌, ◌*◌, max, Bool, ◌&&◌, List, [], ◌∷◌, map, length, slice_get, Option, Some, None, option_map, unwrap_or, replicate}
 use Rattle.std.specs.List.{AllByRecursion}
 use Rattle.std.specs.Map.{lookup}
 use Rattle.nk_base.specs.Text.{text_eq}
 use Rattle.nml_tree.specs.declared.tree.Par.{Par}
 use Rattle.nml_tree.specs.declared.tree.OpRule.{OpRule}
 use Rattle.nml_tree.specs.declared.tree.ModeRule.{ModeRule}
-use Rattle.nml_tree.specs.declared.tree.Item.{Item}
-use Rattle.nml_tree.specs.declared.tree.Item.TheVariants as item
 use Rattle.nml_tree.specs.declared.tree.Desc.{Desc}
 use Rattle.nml_tree.specs.Formula.{formula}
 use Rattle.nml_tree.specs.Block.{Block}
-use Rattle.nml_tree.specs.Table.{Text, Table, Rule, table, pars_of, rule_of, parameter_of}
+use Rattle.nml_tree.specs.Table.{Text, Table, Rule, table, rule_of, parameter_of}
 use Rattle.nml_tree.specs.Derivation.{Derivation, IsDerivation}
 use Rattle.nml_tree.specs.Exec.{storages}
 use Rattle.nml_tree.specs.Written.{written}
-use Rattle.nml_tree.specs.Shapes.{counted, term_size, act_size, IsGreatest}
+use Rattle.nml_tree.specs.Shapes.{term_size, act_size, IsGreatest}
 use Rattle.nml_known.specs.Known.{item_number, parameter_told}
 use Rattle.nml_known.specs.declared.known.Parameter.{Parameter}
 use Rattle.nml_known.specs.declared.known.Parameter.TheVariants as parameter

@@ -1,4 +1,4 @@
-use Rattle.std.proofs.Common.{ℕ, ap, map, subst, Some, ◌≡◌}
+use Rattle.std.proofs.Common.{ap, map, subst, Some, ◌≡◌}
 use Rattle.nml_tree.specs.NameFault as kind
 use Rattle.shape_count.specs.Weights.{IsBest, name_best, with_names}
 use Rattle.shape_count.proofs.Bests.{no_rule, some_from, or_item, op_item, mode_item}
