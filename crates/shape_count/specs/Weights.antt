@@ -6,6 +6,8 @@ use Rattle.nk_base.specs.Text.{text_eq}
 use Rattle.nml_tree.specs.declared.tree.Par.{Par}
 use Rattle.nml_tree.specs.declared.tree.OpRule.{OpRule}
 use Rattle.nml_tree.specs.declared.tree.ModeRule.{ModeRule}
+use Rattle.nml_tree.specs.declared.tree.Item.{Item}
+use Rattle.nml_tree.specs.declared.tree.Item.TheVariants as item
 use Rattle.nml_tree.specs.declared.tree.Desc.{Desc}
 use Rattle.nml_tree.specs.Formula.{formula}
 use Rattle.nml_tree.specs.Block.{Block}
@@ -68,6 +70,17 @@ pub record IsSummaryBy (f : Text → Found) (rule : Rule) (s : Summary) : Type 0
 -- what the text of the rule counts
 abbrev pub IsSummary : Desc → Rule → Summary → Type 0
 IsSummary d rule s = IsSummaryBy (rule_finds d rule) rule s
+
+-- what the text of an item counts that is an and-rule
+abbrev pub IsItemSummary : Desc → Item → Summary → Type 0
+IsItemSummary d (item.OpRule r) s = IsSummary d (op_rule r) s
+IsItemSummary d (item.ModeRule r) s = IsSummary d (mode_rule r) s
+IsItemSummary d _ s = Unit {0}
+
+-- those of so many items from the front
+pub record AreSummaries (d : Desc) (n : ℕ) (summaries : List Summary) : Type 0 where
+  pub long : length summaries ≡ n
+  pub each : (k : ℕ) (i : Item) (s : Summary) → slice_get d.items k ≡ Some i → slice_get summaries k ≡ Some s → IsItemSummary d i s
 
 -- so many times the action of a derivation, and so many times its value
 abbrev pub weighed : Table → (times_action times_value : ℕ) → Derivation → ℕ
