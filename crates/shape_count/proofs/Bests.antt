@@ -1,10 +1,9 @@
 -- What the code finds of a key is the greatest of what its rule's derivations come to.
-use Rattle.std.proofs.Common.{ℕ, zero, suc, ◌≡◌, ◌≤◌, ◌<◌, ◌+◌, ◌*◌, min, max, pos, refl, sym, ◌∙◌, ap, subst, arith, Bool, true, false, cond, List, [], ◌∷◌, map, length, slice_get, Option, Some, None, option_map, Contains, codes, inl, inr, true≢false, IfOk, Result, Ok, Err}
+use Rattle.std.proofs.Common.{ℕ, zero, suc, ◌≡◌, ◌≤◌, ◌+◌, ◌*◌, max, refl, sym, ◌∙◌, ap, subst, arith, Bool, true, false, cond, List, [], ◌∷◌, map, length, slice_get, Option, Some, None, option_map, Contains, codes, inl, inr, true≢false, IfOk, Result, Ok, Err, ◌<◌, ◌++◌, get_or, length-append, ◌⊎◌}
 use Rattle.std.specs.Prelude.{unwrap_or, ◌==◌, ◌&&◌, IfSome, if◌then◌else◌}
 use Rattle.std.specs.List.{AllByRecursion}
 use Rattle.std.proofs.lemmas.Bool.Decides.{Decides-eqb}
 use Rattle.std.proofs.Math.Nat.{mul_assoc, add-mul, mul-add, mul-le-mul_left}
-use Rattle.std.specs.Map.{lookup}
 use Rattle.indexmap.specs.IndexMap.{insert_entry}
 use Rattle.nml_tree.specs.declared.tree.Par.{Par}
 use Rattle.nml_tree.specs.declared.tree.Item.{Item}
@@ -13,16 +12,15 @@ use Rattle.nml_tree.specs.declared.tree.Desc.{Desc}
 use Rattle.nml_tree.specs.declared.tree.OrRule.{OrRule}
 use Rattle.nml_tree.specs.declared.tree.OpRule.{OpRule}
 use Rattle.nml_tree.specs.declared.tree.ModeRule.{ModeRule}
-use Rattle.nml_tree.specs.Formula.{formula}
 use Rattle.nml_tree.specs.NameFault as kind
 use Rattle.nml_tree.specs.Table.{Text, Table, Rule, Declared, Parameter, declared, table, parameter_of, is_mode_word, pars_of}
-use Rattle.nml_tree.specs.Derivation.{Derivation, Arguments, Pick, Compose, NoMore, Part, Field, IsDerivation, Fill}
+use Rattle.nml_tree.specs.Derivation.{Derivation, Arguments, Compose, NoMore, Part, Field, IsDerivation, Fill}
 use Rattle.nml_tree.specs.Exec.{storages}
 use Rattle.nml_tree.specs.Refused.{IsFreeBelow}
 use Rattle.nml_tree.specs.Shapes.{term_size, act_size, counted, size_of_action, IsGreatest}
 use Rattle.nml_tree.specs.Valid.{IsRoot}
 use Rattle.nml_tree.specs.Written.{written}
-use Rattle.nml_names.proofs.Cycles.{RuleAt, declared_here, below_length}
+use Rattle.nml_names.proofs.Cycles.{declared_here, below_length}
 use Rattle.nml_names.proofs.RuleNames.{first_item, some_same}
 use Rattle.nml_known.specs.Known.{item_number, parameter_told}
 use Rattle.nml_upward.specs.Upward.{IsRule, HasNumber, IsParameter, AreMade}
@@ -30,7 +28,7 @@ use Rattle.nml_upward.proofs.Upward.{are_made, at_number, rule_number}
 use Rattle.shape_count.specs.declared.key.Key.{Key}
 use Rattle.shape_count.specs.declared.summary.Summary.{Summary}
 use Rattle.shape_count.specs.Sizes.{plus, times}
-use Rattle.shape_count.specs.Weights.{weighed, IsBest, IsSummary, count_at, value_weight, action_weight, own_weight, sum_best, max_best, key_eq, known_best, scaled_best, number_best, name_best, with_names, part_best, par_best, with_pars, and_best, AreRight, op_rule, mode_rule}
+use Rattle.shape_count.specs.Weights.{AreSummaries, IsItemSummary, weighed, IsBest, IsSummary, count_at, value_weight, action_weight, own_weight, sum_best, max_best, key_eq, known_best, scaled_best, number_best, name_best, with_names, part_best, par_best, with_pars, and_best, AreRight, op_rule, mode_rule}
 use Rattle.shape_count.proofs.Greatest.{counted_product, most_of, most_is, or_greatest, Weigh, arg_sum, best_sum, IsParGreatest, AreParGreatest, and_greatest}
 use Rattle.shape_count.proofs.RootRule.{root_is_rule}
 use Rattle.shape_count.proofs.Written.{dot}
@@ -392,3 +390,29 @@ root_size d free known right root is number here b h =
     let e : r.0 ≡ number = sym (here ∙ ap (λ a. unwrap_or (item_number d a) 0) is ∙ ap (λ o. unwrap_or o 0) r.2) in
     let g = right_from d known right.best (record { number = number; action = 1; value = 0 }) b h (codes "instruction") (subst (HasNumber d (codes "instruction")) e r.2) rule in
     same_greatest (IsRoot (table d)) (weighed (table d) 1 0) (size_of_action (table d)) b (λ x. omega arith) g
+
+-- what is counted of one item more
+last_one : (ss : List Summary) (one : Summary) (k : ℕ) (s : Summary) → slice_get (ss ++ one ∷ []) k ≡ Some s → (slice_get ss k ≡ Some s) ⊎ ((k ≡ length ss) × (one ≡ s))
+last_one [] one zero s h = inr (refl, some_same _ _ h)
+last_one [] one (suc k) s h = absurd cc
+last_one (x ∷ ss) one zero s h = inl h
+last_one (x ∷ ss) one (suc k) s h = elim (last_one ss one k s h) [ inl l ↦ inl l | inr e ↦ (let f = e.0 in inr (omega (arith, f), e.1)) ]
+
+at_slot : (items : List Item) (k : ℕ) (i : Item) → k < length items → i ≡ get_or items k i → slice_get items k ≡ Some i
+at_slot [] k i low is = absurd (omega (arith, low))
+at_slot (x ∷ items) zero i low is = ap Some (sym is)
+at_slot (x ∷ items) (suc k) i low is = at_slot items k i (omega (arith, low)) is
+
+pub one_more : (d : Desc) (items : List Item) (n : ℕ) (ss new : List Summary) (i : Item) (s : Summary) → items ≡ d.items → AreSummaries d n ss → n < length items → i ≡ get_or items n i → IsItemSummary d i s → new ≡ ss ++ s ∷ [] → AreSummaries d (n + 1) new
+one_more d items n ss new i s of all low is sum made =
+    let at : slice_get d.items n ≡ Some i = subst (λ xs. slice_get xs n ≡ Some i) of (at_slot items n i low is) in
+    subst (AreSummaries d (n + 1)) (sym made) (record {
+      long = (let e = length-append ss (s ∷ []) in let l = all.long in omega (arith, e, l));
+      each = λ k j x here got. elim (last_one ss s k x got) [
+        | inl old ↦ all.each k j x here old
+        | inr e ↦
+            (let same : k ≡ n = e.0 ∙ all.long in
+            let item_same : i ≡ j = some_same _ _ (sym at ∙ subst (λ m. slice_get d.items m ≡ Some j) same here) in
+            subst (λ y. IsItemSummary d j y) e.1 (subst (λ y. IsItemSummary d y s) item_same sum))
+      ];
+    })

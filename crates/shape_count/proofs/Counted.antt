@@ -1,5 +1,5 @@
 -- How many shapes a rule has, and the most nodes, from those of the rules that it names.
-use Rattle.std.proofs.Common.{ℕ, zero, suc, ◌≡◌, ◌≤◌, ◌+◌, ◌*◌, min, max, pos, refl, sym, ◌∙◌, ap, subst, arith, List, [], ◌∷◌, ◌++◌, map, length, length-append, slice_get, Option, Some, None, Contains, inl, inr, Bool}
+use Rattle.std.proofs.Common.{ℕ, zero, suc, ◌≡◌, ◌≤◌, ◌+◌, ◌*◌, pos, refl, sym, ◌∙◌, ap, subst, arith, List, [], ◌∷◌, ◌++◌, map, length, length-append, slice_get, Option, Some, None, Contains, inl, inr, Bool}
 use Rattle.std.proofs.lemmas.List.{length-map}
 use Rattle.std.proofs.Math.Nat.{mul_assoc}
 use Rattle.std.specs.Prelude.{IsTrue}
@@ -14,7 +14,7 @@ use Rattle.nml_upward.proofs.Upward.{behind}
 use Rattle.shape_count.specs.declared.tally.Tally.{Tally}
 use Rattle.shape_count.specs.Tally.{tally, either, both, above, with_alternatives, with_parameters, Among, stands_before, AreListed, Tallied, IsTally}
 use Rattle.shape_count.proofs.Members.{Lists, among_left, among_right, among_either, among_map, among_mapped, crossed, among_crossed, uncrossed, length_crossed, smaller_before, ascends_append, ascends_map, ascends_crossed}
-use Rattle.shape_count.proofs.Greatest.{counted_product, most_of, got_is_among, or_greatest, Weigh, arg_sum, best_sum, IsParGreatest, AreParGreatest, and_greatest}
+use Rattle.shape_count.proofs.Greatest.{counted_product, most_of, or_greatest, Weigh, arg_sum, best_sum, IsParGreatest, AreParGreatest, and_greatest}
 
 -- a list of one set for another with the same lists of picks
 same_listed : {A B : Type 0} (P : A → Type 0) (Q : B → Type 0) (f : A → List ℕ) (g : B → List ℕ) (shapes : Lists) → ((x : A) → P x → (y : B) × Q y × (g y ≡ f x)) → ((y : B) → Q y → (x : A) × P x × (f x ≡ g y)) → AreListed P f shapes → AreListed Q g shapes

@@ -1,5 +1,5 @@
 -- The greatest of what is counted of the derivations of a rule, from the greatest of those of the rules that it names.
-use Rattle.std.proofs.Common.{ℕ, zero, suc, ◌≡◌, ◌≤◌, ◌+◌, ◌*◌, min, max, pos, refl, sym, ◌∙◌, ap, subst, arith, List, [], ◌∷◌, map, slice_get, Option, Some, None, Contains, ◌⊎◌, inl, inr, Bool}
+use Rattle.std.proofs.Common.{ℕ, zero, suc, ◌≡◌, ◌≤◌, ◌+◌, ◌*◌, max, pos, refl, sym, ◌∙◌, ap, subst, arith, List, [], ◌∷◌, slice_get, Option, Some, None, Contains, ◌⊎◌, inl, inr, Bool}
 use Rattle.std.proofs.lemmas.Bool.{cases_lt}
 use Rattle.std.proofs.Math.Nat.{zero-mul, mul-zero, le-mul_of_pos_right, mul_comm}
 use Rattle.nml_tree.specs.declared.tree.Par.{Par}

@@ -1,5 +1,5 @@
 -- What stands in lists of shapes, and their order.
-use Rattle.std.proofs.Common.{ℕ, zero, suc, List, [], ◌∷◌, ◌++◌, map, length, ◌≡◌, ◌<◌, ◌+◌, ◌*◌, arith, refl, sym, ap, subst, Some, inl, inr, Contains}
+use Rattle.std.proofs.Common.{ℕ, zero, suc, List, [], ◌∷◌, ◌++◌, map, length, ◌≡◌, ◌<◌, ◌*◌, arith, refl, sym, ap, subst, inl, inr, Contains}
 use Rattle.std.specs.Prelude.{◌⊎◌, Bool, true, false, ◌||◌, ◌&&◌, ◌==◌, nat_lt, IsTrue}
 use Rattle.std.specs.List.{AllByRecursion}
 use Rattle.std.proofs.lemmas.Bool.{eq-eqb, lt-ltb}

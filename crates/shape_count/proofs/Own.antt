@@ -1,27 +1,27 @@
 -- How long the action and the value of an and-rule's derivation are, from how long those of its parts are.
-use Rattle.std.proofs.Common.{ℕ, zero, suc, ◌≡◌, ◌≤◌, ◌<◌, ◌+◌, ◌*◌, min, max, pos, refl, sym, ◌∙◌, ap, subst, arith, Bool, true, false, cond, List, [], ◌∷◌, map, length, slice_get, Option, Some, None, Contains}
-use Rattle.std.specs.Prelude.{unwrap_or, option_map, ◌==◌, if◌then◌else◌, replicate}
+use Rattle.std.proofs.Common.{ℕ, zero, suc, ◌≡◌, ◌+◌, ◌*◌, refl, sym, ◌∙◌, ap, subst, arith, Bool, true, false, cond, List, [], ◌∷◌, map, length, slice_get, Option, Some, None}
+use Rattle.std.specs.Prelude.{◌==◌, if◌then◌else◌}
 use Rattle.std.proofs.lemmas.List.{length-map, length-replicate}
-use Rattle.std.proofs.Math.Nat.{mul_assoc, mul_comm, add-mul, mul-add, zero-mul, mul-zero}
+use Rattle.std.proofs.Math.Nat.{zero-mul}
 use Rattle.std.specs.Map.{lookup}
 use Rattle.nk_base.specs.Text.{text_eq}
 use Rattle.nk_base.specs.declared.number.Ty.{Ty}
 use Rattle.nml_tree.specs.declared.tree.Par.{Par}
 use Rattle.nml_tree.specs.declared.tree.Desc.{Desc}
-use Rattle.nml_tree.specs.Table.{Text, Table, Rule, Declared, declared, table, Parameter, parameter_of}
+use Rattle.nml_tree.specs.Table.{Text, Table, Rule, Declared, declared, table}
 use Rattle.nml_tree.specs.Derivation.{Derivation, Arguments, Pick, Compose, NoMore, Part, Field, IsDerivation, Fill, fields}
 use Rattle.nml_tree.specs.Refused.{IsFreeBelow}
-use Rattle.nml_tree.specs.Act.{Term, Act, Done, Cell}
-use Rattle.nml_tree.specs.Written.{Scope, Argument, FieldAt, Written, written, source, named, reference, action_of, act, value_of, arguments}
+use Rattle.nml_tree.specs.Act.{Term, Cell}
+use Rattle.nml_tree.specs.Written.{Scope, Argument, FieldAt, written, source, named, action_of, arguments}
 use Rattle.nml_tree.specs.Exec.{storages}
-use Rattle.nml_tree.specs.Shapes.{term_size, act_size, has_one_cell, counted, size_of_action}
+use Rattle.nml_tree.specs.Shapes.{term_size, act_size, has_one_cell, counted}
 use Rattle.attr_exec.proofs.Lawful.{all_numbered}
 use Rattle.shape_count.specs.declared.scope.Found.{Found}
 use Rattle.shape_count.specs.declared.scope.Found.TheVariants as found_as
-use Rattle.shape_count.specs.Sizes.{plus, times, finds, found_at, found_declared, own_value, value_mentioned, with_block, block_mentioned, acted}
+use Rattle.shape_count.specs.Sizes.{found_at, found_declared, own_value, value_mentioned, with_block, block_mentioned, acted}
 use Rattle.shape_count.specs.Weights.{numbered, par_names, zeros, rule_finds}
 use Rattle.shape_count.proofs.Greatest.{counted_product}
-use Rattle.shape_count.proofs.Written.{dot, Means, Acts, Known, size_of_value, size_of_block, AreTargets}
+use Rattle.shape_count.proofs.Written.{dot, Means, Acts, Known, size_of_value, size_of_block}
 use Rattle.shape_count.proofs.Targets.{rule_targets}
 
 -- what stands for a parameter where it is named

@@ -1,5 +1,5 @@
 -- What is counted of all rules, one rule of the order after the other.
-use Rattle.std.proofs.Common.{ℕ, zero, suc, ◌≡◌, ◌≤◌, ◌<◌, ◌+◌, refl, sym, ◌∙◌, ap, subst, arith, Bool, true, List, [], ◌∷◌, map, length, set, slice_get, slice_index_or, Option, Some, None, option_map, Contains, codes, inl, inr}
+use Rattle.std.proofs.Common.{ℕ, zero, suc, ◌≡◌, ◌≤◌, ◌<◌, ◌+◌, refl, sym, ◌∙◌, ap, subst, arith, true, List, [], ◌∷◌, map, length, set, slice_get, slice_index_or, Option, Some, None, option_map, Contains, codes, inl, inr}
 use Rattle.std.specs.Prelude.{unwrap_or}
 use Rattle.std.proofs.lemmas.Bool.{cases_eq, cases_lt}
 use Rattle.std.proofs.lemmas.List.{length-set}
@@ -12,7 +12,6 @@ use Rattle.nml_tree.specs.NameFault as kind
 use Rattle.nml_tree.specs.Table.{Text, Rule, Declared, Parameter, declared, table, parameter_of, is_mode_word, rule_of}
 use Rattle.nml_tree.specs.Reach.{IsBelow}
 use Rattle.nml_tree.specs.Refused.{IsFreeBelow}
-use Rattle.nml_tree.specs.Shapes.{counted}
 use Rattle.nml_names.specs.Below.{below, graph}
 use Rattle.nml_names.specs.Graphs.{IsOrder, StandsBefore}
 use Rattle.nml_names.specs.Naming.{declaration}

@@ -8,7 +8,7 @@ use Rattle.nml_tree.specs.declared.tree.Item.{Item}
 use Rattle.nml_tree.specs.declared.tree.Item.TheVariants as item
 use Rattle.nml_tree.specs.declared.tree.Desc.{Desc}
 use Rattle.nml_tree.specs.declared.fault.Root.TheVariants as root
-use Rattle.nml_tree.specs.Table.{Text, Table, Declared, declared, table, entry, port_of}
+use Rattle.nml_tree.specs.Table.{Text, Table, Declared, declared, table, entry}
 use Rattle.nml_tree.specs.Uses.{declares, parameters}
 use Rattle.nml_tree.specs.Places.{when}
 use Rattle.nml_tree.specs.NameFault.{is_among, is_register, is_rule, are_same_port, unknown_places, declared_places, parameter_places, shared_places, item_name_places, name_places_from, name_places}

@@ -1,11 +1,10 @@
 -- What a statement of a description without faults assigns is a cell, a transitory or the output.
 use Rattle.std.proofs.Common.{ℕ, zero, suc, ◌+◌, ◌≡◌, ℤ, pos, negsuc, arith, refl, sym, ◌∙◌, ap, subst, Bool, true, false, cond, List, [], ◌∷◌, map, length, Option, Some, None, Contains}
-use Rattle.std.specs.Prelude.{◌&&◌, filter, if◌then◌else◌, int_le, slice_get, unsigned_abs, ◌-ℤ◌, max}
+use Rattle.std.specs.Prelude.{◌&&◌, filter, if◌then◌else◌, slice_get, unsigned_abs, ◌-ℤ◌, max}
 use Rattle.std.specs.Map.{lookup}
 use Rattle.nk_base.specs.Text.{text_eq}
 use Rattle.nk_base.specs.declared.number.Ty.{Ty}
 use Rattle.nk_base.specs.declared.number.Ty.TheVariants as tys
-use Rattle.nml_tree.specs.declared.names.Name.{Name}
 use Rattle.nml_tree.specs.declared.operator.Bin.{Bin}
 use Rattle.nml_tree.specs.declared.operator.Bin.TheVariants as bin
 use Rattle.nml_tree.specs.declared.tree.Par.{Par}
@@ -19,13 +18,13 @@ use Rattle.nml_tree.specs.Derivation.{Derivation, Arguments, Pick, Compose, NoMo
 use Rattle.nml_tree.specs.Reach.{CycleFault}
 use Rattle.nml_tree.specs.Refused.{IsFreeBelow, By_cycle}
 use Rattle.nml_tree.specs.Act.{Term}
-use Rattle.nml_tree.specs.Worth.{Worth, Kind, Scope, unknown, nothing, is_type, is_rule, is_other, of_ty, of_type, of_number, of_declared, of_parameter, of_entry, of_name, of_fit, of_bits, are_bits, of_prefix, of_binary, sides, worth_of, number, known_first, greater_cap, Untold, of_run, either, greatest, of_mode, of_value, of_rule, worth, rule_worth, rule_scope}
+use Rattle.nml_tree.specs.Worth.{Worth, Scope, unknown, nothing, is_type, is_rule, is_other, of_ty, of_type, of_number, of_declared, of_parameter, of_entry, of_name, of_fit, of_bits, are_bits, of_prefix, of_binary, sides, worth_of, number, known_first, greater_cap, Untold, of_run, greatest, of_value, of_rule, worth, rule_worth, rule_scope}
 use Rattle.nml_tree.specs.TypeFault.{block_places, assigned_places, is_named_rightly, is_indexed}
 use Rattle.nml_tree.specs.Written as written
 use Rattle.nml_tree.specs.Written.{Argument, FieldAt, source, named, reference, index_term, term, value_of, arguments}
 use Rattle.nml_tree.proofs.OneDerivation.{or_of}
 use Rattle.nml_tree.proofs.Height.{picked}
-use Rattle.nml_widths.proofs.Fits.{no_left, no_right, unless_none, both_left}
+use Rattle.nml_widths.proofs.Fits.{no_left, no_right, unless_none}
 use Rattle.nml_widths.proofs.ModeFits.{all_kept}
 use Rattle.nml_widths.proofs.Settled.{settled}
 use Rattle.nml_upward.specs.Upward.{AreMade}

@@ -1,6 +1,6 @@
 -- How long a written-out expression and a written-out action are, from how often they name each parameter.
-use Rattle.std.proofs.Common.{ℕ, zero, suc, ◌≡◌, ◌≤◌, ◌<◌, ◌+◌, ◌*◌, min, max, pos, refl, sym, ◌∙◌, ap, subst, arith, Bool, true, false, List, [], ◌∷◌, map, length, slice_get, set, Option, Some, None}
-use Rattle.std.specs.Prelude.{slice_set, unwrap_or, ◌==◌, if◌then◌else◌}
+use Rattle.std.proofs.Common.{ℕ, zero, suc, ◌≡◌, ◌+◌, ◌*◌, pos, refl, ◌∙◌, ap, arith, List, [], ◌∷◌, length, slice_get, Option, Some, None}
+use Rattle.std.specs.Prelude.{unwrap_or}
 use Rattle.std.proofs.lemmas.List.{length-set}
 use Rattle.std.specs.Map.{lookup}
 use Rattle.nk_base.specs.Text.{text_eq}
@@ -10,7 +10,7 @@ use Rattle.nml_tree.specs.Formula as formula
 use Rattle.nml_tree.specs.Formula.{Formula}
 use Rattle.nml_tree.specs.Block as block
 use Rattle.nml_tree.specs.Block.{Block, Index}
-use Rattle.nml_tree.specs.Table.{Text, Table, Declared, declared}
+use Rattle.nml_tree.specs.Table.{Text, Table}
 use Rattle.nml_tree.specs.Act.{Term, Act, Cell, Trn, Done, SetCell, SetTrn, Put, Halt, When, followed, assigned}
 use Rattle.nml_tree.specs.Written.{Scope, Argument, reference, term, index_term, action_of, act, value_of}
 use Rattle.nml_tree.specs.Shapes.{term_size, act_size, counted}

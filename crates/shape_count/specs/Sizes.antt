@@ -1,14 +1,13 @@
 -- How long the action and the value of a rule are, written out, from how long those of its parts are. For private contracts.
-use Rattle.std.specs.Prelude.{ℕ, ◌≡◌, ◌==◌, ◌+◌, ◌*◌, max, if◌then◌else◌, List, [], ◌∷◌, map, slice_get, slice_set, Option, Some, None, option_map, unwrap_or}
+use Rattle.std.specs.Prelude.{ℕ, ◌==◌, ◌+◌, ◌*◌, if◌then◌else◌, List, slice_get, slice_set, Option, Some, None, unwrap_or}
 use Rattle.std.specs.Map.{lookup}
 use Rattle.nk_base.specs.Text.{text_eq}
 use Rattle.nml_tree.specs.declared.names.Name.{Name}
 use Rattle.nml_tree.specs.declared.tree.Desc.{Desc}
-use Rattle.nml_tree.specs.declared.expression.Expr.{Expr}
-use Rattle.nml_tree.specs.Formula.{Formula, formula, Numeral, Truth, Named, Indexed, Paren, Fitted, Bits, Choose, Unary, Binary}
+use Rattle.nml_tree.specs.Formula.{Formula, Numeral, Truth, Named, Indexed, Paren, Fitted, Bits, Choose, Unary, Binary}
 use Rattle.nml_tree.specs.Block.{Block, Index, Done, Assign, Part, Halt, If, IfElse}
 use Rattle.nml_tree.specs.Shapes.{counted}
-use Rattle.nml_tree.specs.Table.{Text, Table, Declared, declared, table}
+use Rattle.nml_tree.specs.Table.{Text, Declared, declared, table}
 use Rattle.shape_count.specs.declared.scope.Found.{Found}
 use Rattle.shape_count.specs.declared.scope.Found.TheVariants as found_as
 

@@ -3,7 +3,7 @@ use Rattle.std.specs.Prelude.{ℕ, ◌≡◌, ◌==◌, nat_lt, ◌+◌, ◌*◌
 use Rattle.std.specs.List.{AllByRecursion}
 use Rattle.nml_tree.specs.declared.tree.Par.{Par}
 use Rattle.nml_tree.specs.Table.{Text, Table}
-use Rattle.nml_tree.specs.Derivation.{Derivation, IsDerivation, picks}
+use Rattle.nml_tree.specs.Derivation.{IsDerivation, picks}
 use Rattle.nml_tree.specs.Shapes.{nodes, counted, IsGreatest}
 use Rattle.shape_count.specs.declared.tally.Tally.{Tally}
 

@@ -1,5 +1,5 @@
 -- What is counted of a rule's value and of its action together: so many times the one, and so many times the other. For private contracts.
-use Rattle.std.specs.Prelude.{ℕ, if◌then◌else◌, zero, suc, ◌≡◌, ◌==◌, ◌+◌, ◌*◌, max, Bool, ◌&&◌, List, [], ◌∷◌, map, length, slice_get, Option, Some, None, option_map, unwrap_or, replicate}
+use Rattle.std.specs.Prelude.{ℕ, if◌then◌else◌, ◌≡◌, ◌==◌, ◌+◌, ◌*◌, max, Bool, ◌&&◌, List, [], ◌∷◌, map, length, slice_get, Option, Some, None, option_map, unwrap_or, replicate}
 use Rattle.std.specs.List.{AllByRecursion}
 use Rattle.std.specs.Map.{lookup}
 use Rattle.nk_base.specs.Text.{text_eq}
@@ -11,11 +11,11 @@ use Rattle.nml_tree.specs.declared.tree.Item.TheVariants as item
 use Rattle.nml_tree.specs.declared.tree.Desc.{Desc}
 use Rattle.nml_tree.specs.Formula.{formula}
 use Rattle.nml_tree.specs.Block.{Block}
-use Rattle.nml_tree.specs.Table.{Text, Table, Rule, table, pars_of, rule_of, parameter_of}
+use Rattle.nml_tree.specs.Table.{Text, Table, Rule, table, rule_of, parameter_of}
 use Rattle.nml_tree.specs.Derivation.{Derivation, IsDerivation}
 use Rattle.nml_tree.specs.Exec.{storages}
 use Rattle.nml_tree.specs.Written.{written}
-use Rattle.nml_tree.specs.Shapes.{counted, term_size, act_size, IsGreatest}
+use Rattle.nml_tree.specs.Shapes.{term_size, act_size, IsGreatest}
 use Rattle.nml_known.specs.Known.{item_number, parameter_told}
 use Rattle.nml_known.specs.declared.known.Parameter.{Parameter}
 use Rattle.nml_known.specs.declared.known.Parameter.TheVariants as parameter
@@ -70,6 +70,17 @@ pub record IsSummaryBy (f : Text → Found) (rule : Rule) (s : Summary) : Type 0
 -- what the text of the rule counts
 abbrev pub IsSummary : Desc → Rule → Summary → Type 0
 IsSummary d rule s = IsSummaryBy (rule_finds d rule) rule s
+
+-- what the text of an item counts that is an and-rule
+abbrev pub IsItemSummary : Desc → Item → Summary → Type 0
+IsItemSummary d (item.OpRule r) s = IsSummary d (op_rule r) s
+IsItemSummary d (item.ModeRule r) s = IsSummary d (mode_rule r) s
+IsItemSummary d _ s = Unit {0}
+
+-- those of so many items from the front
+pub record AreSummaries (d : Desc) (n : ℕ) (summaries : List Summary) : Type 0 where
+  pub long : length summaries ≡ n
+  pub each : (k : ℕ) (i : Item) (s : Summary) → slice_get d.items k ≡ Some i → slice_get summaries k ≡ Some s → IsItemSummary d i s
 
 -- so many times the action of a derivation, and so many times its value
 abbrev pub weighed : Table → (times_action times_value : ℕ) → Derivation → ℕ

@@ -1,16 +1,16 @@
 //! How long an action written out is at most.
 
-ghost use Rattle.std.specs.Prelude.{◌≡◌, Some, IfOk, IfSome, OnOk, slice_get};
+ghost use Rattle.std.specs.Prelude.{◌≡◌, Some, IfOk, IfSome, OnOk, length, slice_get};
 ghost use Rattle.nml_tree.specs.Refused.{IsFreeBelow};
 ghost use Rattle.nml_tree.specs.Shapes.{IsGreatest, size_of_action};
 ghost use Rattle.nml_tree.specs.Table.{table};
 ghost use Rattle.nml_tree.specs.Valid.{IsRoot};
-ghost use Rattle.shape_count.specs.Weights.{AreRight, IsBest};
+ghost use Rattle.shape_count.specs.Weights.{AreRight, AreSummaries, IsBest, IsItemSummary};
 
 use crate::best::{and_best, or_best};
 use crate::key::{Key, look, number_of};
 use crate::root::root_name;
-use crate::summary::{mode_summary, op_summary};
+use crate::summary::{Summary, summaries};
 use indexmap::IndexMap;
 use nk_base::Memory;
 use nml_known::Names;
@@ -20,16 +20,17 @@ use std::alloc::Global;
 /// What the key comes to at most, this being its item; `None` where something below it isn't known, which is then put onto the open
 /// ones.
 fn rule_best(
-    alloc: Global,
     names: &Names<'_>,
     known: &IndexMap<Key, u32>,
     open: &mut Vec<Key>,
     key: Key,
     item: &Item,
+    s: &Summary,
 ) -> Result<Option<u32>, Memory>
     requires free { IsFreeBelow 12 names.now }
     requires right { AreRight names.now known.now.entries }
     requires at { slice_get names.now.items key.number ≡ Some item.now }
+    requires summary { IsItemSummary names.now item.now s.now }
     ensures { IfOk result (λ o. IfSome o (λ b. IsBest names.now key b)) }
 {
     match item {
@@ -40,44 +41,43 @@ fn rule_best(
         Item::OrRule(rule) => {
             or_best(names, known, open, key, &rule.first, rule.rest.as_slice())
         }
-        Item::OpRule(rule) => {
-            let s = op_summary(alloc, names, rule)?;
-            and_best(names, known, open, &s, key, &rule.pars)
-        }
-        Item::ModeRule(rule) => {
-            let s = mode_summary(alloc, names, rule)?;
-            and_best(names, known, open, &s, key, &rule.pars)
-        }
+        Item::OpRule(rule) => and_best(names, known, open, s, key, &rule.pars),
+        Item::ModeRule(rule) => and_best(names, known, open, s, key, &rule.pars),
     }
 }
 
 /// The same; where there is no such item, there is nothing to come to.
 fn item_best(
-    alloc: Global,
     names: &Names<'_>,
+    summaries: &[Summary],
     known: &IndexMap<Key, u32>,
     open: &mut Vec<Key>,
     key: Key,
 ) -> Result<Option<u32>, Memory>
     requires free { IsFreeBelow 12 names.now }
+    requires summaries { AreSummaries names.now (length names.now.items) summaries.now }
     requires right { AreRight names.now known.now.entries }
     ensures { IfOk result (λ o. IfSome o (λ b. IsBest names.now key b)) }
 {
     match names.items().get(key.number) {
         None => Ok(Some(0)),
-        Some(item) => rule_best(alloc, names, known, open, key, item),
+        Some(item) => match summaries.get(key.number) {
+            None => Ok(Some(0)),
+            Some(s) => rule_best(names, known, open, key, item, s),
+        },
     }
 }
 
 /// Makes the key known, or puts it and what isn't known below it onto the open ones.
 fn settle(
-    alloc: Global,
     names: &Names<'_>,
+    summaries: &[Summary],
     known: &mut IndexMap<Key, u32>,
     open: &mut Vec<Key>,
     key: Key,
 ) -> Result<(), Memory>
     requires free { IsFreeBelow 12 names.now }
+    requires summaries { AreSummaries names.now (length names.now.items) summaries.now }
     requires right { AreRight names.now known.old.entries }
     ensures { OnOk result (AreRight names.now known.new.entries) }
 {
@@ -85,7 +85,7 @@ fn settle(
         return Ok(());
     }
     open.push(key)?;
-    match item_best(alloc, names, known, open, key)? {
+    match item_best(names, summaries, known, open, key)? {
         None => {}
         Some(best) => {
             open.pop();
@@ -105,6 +105,7 @@ pub fn greatest_size(alloc: Global, names: &Names<'_>) -> Result<u32, Memory>
     requires free { IsFreeBelow 12 names.now }
     ensures { IfOk result (λ n. IsGreatest (IsRoot (table names.now)) (size_of_action (table names.now)) n) }
 {
+    let summaries = summaries(alloc, names)?;
     let root = root_name(alloc)?;
     let whole = Key {
         number: number_of(names, &root),
@@ -122,7 +123,7 @@ pub fn greatest_size(alloc: Global, names: &Names<'_>) -> Result<u32, Memory>
             None => whole,
             Some(next) => next,
         };
-        settle(alloc, names, &mut known, &mut open, key)?;
+        settle(names, summaries.as_slice(), &mut known, &mut open, key)?;
     }
     Err(Memory)
 }

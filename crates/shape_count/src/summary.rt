@@ -6,14 +6,14 @@ ghost use Rattle.nml_tree.specs.Table as table;
 ghost use Rattle.nml_tree.specs.Table.{pars_of};
 ghost use Rattle.shape_count.specs.Sizes.{finds};
 ghost use Rattle.shape_count.specs.Weights as weights;
-ghost use Rattle.shape_count.specs.Weights.{AreActs, AreGiven, IsSummary, numbered, par_names};
+ghost use Rattle.shape_count.specs.Weights.{AreActs, AreGiven, AreSummaries, IsItemSummary, IsSummary, numbered, par_names};
 
 use crate::count::{action_size, expr};
 use crate::scope::Scope;
 use indexmap::IndexMap;
 use nk_base::{Memory, Text};
 use nml_known::Names;
-use nml_tree::{Action, ModeRule, OpRule, Par, Pars};
+use nml_tree::{Action, Item, ModeRule, OpRule, Par, Pars};
 use std::alloc::Global;
 
 /// The size of an action's own text, how often it names each parameter, and how often the action of each stands in it.
@@ -96,7 +96,7 @@ fn acts_of(
 }
 
 /// That of an `op`.
-pub fn op_summary(alloc: Global, names: &Names<'_>, rule: &OpRule) -> Result<Summary, Memory>
+fn op_summary(alloc: Global, names: &Names<'_>, rule: &OpRule) -> Result<Summary, Memory>
     ensures { IfOk result (IsSummary names.now (weights.op_rule rule.now)) }
 {
     let places = places_of(alloc, &rule.pars)?;
@@ -115,7 +115,7 @@ pub fn op_summary(alloc: Global, names: &Names<'_>, rule: &OpRule) -> Result<Sum
 }
 
 /// That of a `mode`.
-pub fn mode_summary(alloc: Global, names: &Names<'_>, rule: &ModeRule) -> Result<Summary, Memory>
+fn mode_summary(alloc: Global, names: &Names<'_>, rule: &ModeRule) -> Result<Summary, Memory>
     ensures { IfOk result (IsSummary names.now (weights.mode_rule rule.now)) }
 {
     let places = places_of(alloc, &rule.pars)?;
@@ -132,4 +132,45 @@ pub fn mode_summary(alloc: Global, names: &Names<'_>, rule: &ModeRule) -> Result
         value_counts,
         acts,
     })
+}
+
+/// Nothing counted.
+fn nothing(alloc: Global) -> Summary {
+    Summary {
+        value: 0,
+        value_counts: Vec::new(alloc),
+        acts: Acts {
+            own: 0,
+            counts: Vec::new(alloc),
+            actions: Vec::new(alloc),
+        },
+    }
+}
+
+/// That of an item; nothing where it is no and-rule.
+fn item_summary(alloc: Global, names: &Names<'_>, item: &Item) -> Result<Summary, Memory>
+    ensures { IfOk result (IsItemSummary names.now item.now) }
+{
+    match item {
+        Item::Let(_, _, _, _, _) => Ok(nothing(alloc)),
+        Item::Type(_, _, _, _) => Ok(nothing(alloc)),
+        Item::Storage(_) => Ok(nothing(alloc)),
+        Item::Port(_) => Ok(nothing(alloc)),
+        Item::OrRule(_) => Ok(nothing(alloc)),
+        Item::OpRule(rule) => op_summary(alloc, names, rule),
+        Item::ModeRule(rule) => mode_summary(alloc, names, rule),
+    }
+}
+
+/// That of each item.
+pub fn summaries(alloc: Global, names: &Names<'_>) -> Result<Vec<Summary>, Memory>
+    ensures { IfOk result (λ all. AreSummaries names.now (length names.now.items) all.items) }
+{
+    let items = names.items();
+    let mut all = Vec::new(alloc);
+    for number in 0..items.len() {
+        let one = item_summary(alloc, names, &items[number])?;
+        all.push(one)?;
+    }
+    Ok(all)
 }

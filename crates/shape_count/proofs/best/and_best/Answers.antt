@@ -1,6 +1,4 @@
-use Rattle.std.proofs.Common.{◌≡◌, ◌∙◌, ap, refl, sym, subst, map, IfOk, Some}
-use Rattle.nml_tree.specs.Table.{pars_of}
-use Rattle.shape_count.specs.Weights.{and_best, par_best, with_pars}
+use Rattle.std.proofs.Common.{◌≡◌, refl, subst, IfOk}
 use Rattle.shape_count.proofs.best.and_best.Goals as goal
 
 pub returns-in_ok-one-in-Some : goal.returns-in_ok-one-in-Some

@@ -1,6 +1,6 @@
-use Rattle.std.proofs.Common.{ℕ, ap, map, subst, Some, ◌≡◌}
+use Rattle.std.proofs.Common.{ap, map, subst, Some, ◌≡◌}
 use Rattle.nml_tree.specs.NameFault as kind
-use Rattle.shape_count.specs.Weights.{IsBest, name_best, with_names}
+use Rattle.shape_count.specs.Weights.{IsBest, IsItemSummary, name_best, with_names}
 use Rattle.shape_count.proofs.Bests.{no_rule, some_from, or_item, op_item, mode_item}
 use Rattle.shape_count.proofs.size.rule_best.Goals as goal
 
@@ -25,14 +25,16 @@ returns-in-OrRule c =
     (subst (λ xs. with_names ask (ask rule.first.text) (map (λ (bar, y). y.text) xs) ≡ Some b) c.as_slice.ensures h))
     c.or_best.ensures
 
-pub returns-in_ok-s-in-OpRule : goal.returns-in_ok-s-in-OpRule
-returns-in_ok-s-in-OpRule c =
-    some_from c.and_best.result _ (IsBest c.args.names.now c.args.key)
-    (λ b h. op_item c.args.names.now c.requires.free c.args.known.now.entries c.requires.right c.args.key c.args.item.now c.requires.at c.in-OpRule.rule c.in_ok-s-in-OpRule.s b c.in-OpRule.is c.in_ok-s-in-OpRule.ensures h)
+pub returns-in-OpRule : goal.returns-in-OpRule
+returns-in-OpRule c =
+    let d = c.args.names.now in
+    some_from c.and_best.result _ (IsBest d c.args.key)
+    (λ b h. op_item d c.requires.free c.args.known.now.entries c.requires.right c.args.key c.args.item.now c.requires.at c.in-OpRule.rule c.args.s.now b c.in-OpRule.is (subst (λ i. IsItemSummary d i c.args.s.now) c.in-OpRule.is c.requires.summary) h)
     c.and_best.ensures
 
-pub returns-in_ok-s-in-ModeRule : goal.returns-in_ok-s-in-ModeRule
-returns-in_ok-s-in-ModeRule c =
-    some_from c.and_best-in-ModeRule.result _ (IsBest c.args.names.now c.args.key)
-    (λ b h. mode_item c.args.names.now c.requires.free c.args.known.now.entries c.requires.right c.args.key c.args.item.now c.requires.at c.in-ModeRule.rule c.in_ok-s-in-ModeRule.s b c.in-ModeRule.is c.in_ok-s-in-ModeRule.ensures h)
+pub returns-in-ModeRule : goal.returns-in-ModeRule
+returns-in-ModeRule c =
+    let d = c.args.names.now in
+    some_from c.and_best-in-ModeRule.result _ (IsBest d c.args.key)
+    (λ b h. mode_item d c.requires.free c.args.known.now.entries c.requires.right c.args.key c.args.item.now c.requires.at c.in-ModeRule.rule c.args.s.now b c.in-ModeRule.is (subst (λ i. IsItemSummary d i c.args.s.now) c.in-ModeRule.is c.requires.summary) h)
     c.and_best-in-ModeRule.ensures

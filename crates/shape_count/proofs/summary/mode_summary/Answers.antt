@@ -1,4 +1,4 @@
-use Rattle.std.proofs.Common.{◌∙◌, ap, refl, subst}
+use Rattle.std.proofs.Common.{◌∙◌, ap, subst}
 use Rattle.nml_tree.specs.Formula.{formula}
 use Rattle.shape_count.specs.Sizes.{finds, mentioned}
 use Rattle.shape_count.specs.Weights.{AreActs, IsSummaryBy, numbered, mode_rule, par_names, zeros}

@@ -1,6 +1,4 @@
 use Rattle.std.proofs.Common.{◌∙◌, ap, refl, subst}
-use Rattle.nml_tree.specs.Block.{action_block}
-use Rattle.nml_tree.specs.Table.{pars_of}
 use Rattle.shape_count.specs.Sizes.{finds}
 use Rattle.shape_count.specs.Weights.{AreActs, IsSummaryBy, numbered, op_rule, par_names, zeros}
 use Rattle.shape_count.proofs.Places.{same_finds}
