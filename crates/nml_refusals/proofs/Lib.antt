@@ -1,7 +1,6 @@
 pub mod FirstPair
 pub mod Alike
 pub mod Known
-pub mod RootRule
 pub mod SomeDerivation
 pub mod Summaries
 pub mod TreeFaults

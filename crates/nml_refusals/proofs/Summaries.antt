@@ -10,7 +10,7 @@ use Rattle.nml_upward.proofs.Upward.{are_made}
 use Rattle.nml_shape.proofs.OneList.{one_list_of_shapes}
 use Rattle.nml_outline.proofs.Premises.{one_width}
 use Rattle.nml_types.specs.Summary.{IsSummary}
-use Rattle.nml_refusals.proofs.RootRule.{root_rule}
+use Rattle.shape_count.proofs.RootRule.{root_is_rule}
 use Rattle.nml_refusals.proofs.SomeDerivation.{has_derivation}
 
 pub one_summary : (t : Table) (count width other wide : ℕ) → IsSummary t count width → IsSummary t other wide → (count ≡ other) × (width ≡ wide)
@@ -22,4 +22,4 @@ less d m n le free k low h = free k (omega (arith, low, le)) h
 
 -- there is an instruction
 pub some_root : (d : Desc) → IsTyped d → (x : Derivation) × IsRoot (table d) x
-some_root d typed = has_derivation (table d) (are_made d (less d 8 12 (omega arith) typed)) (λ r f. typed 5 (omega arith) (By_cycle r f)) (codes "instruction") (root_rule d typed)
+some_root d typed = has_derivation (table d) (are_made d (less d 8 12 (omega arith) typed)) (λ r f. typed 5 (omega arith) (By_cycle r f)) (codes "instruction") (root_is_rule d typed)

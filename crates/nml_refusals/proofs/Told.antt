@@ -18,11 +18,14 @@ told d typed = record { shapes = shape_list (table d) (codes "instruction"); all
 pub some_summary : (d : Desc) → IsChecked d → (count : ℕ) × (width : ℕ) × IsSummary (table d) count width
 some_summary d checked =
     let typed = less d 12 13 (omega arith) checked.free in
-    let x = some_root d typed in
-    (length (shape_list (table d) (codes "instruction")), length (image x.0), record {
-      shapes = shape_list (table d) (codes "instruction");
-      all = are_shapes d typed;
-      count_is = refl;
-      some = x;
-      width_is = λ y h. one_width d (less d 10 12 (omega arith) typed) y x.0 h x.1;
-    })
+    let x = some_root d typed in (
+      length (shape_list (table d) (codes "instruction")),
+      length (image x.0),
+      record {
+        shapes = shape_list (table d) (codes "instruction");
+        all = are_shapes d typed;
+        count_is = refl;
+        some = x;
+        width_is = λ y h. one_width d (less d 10 12 (omega arith) typed) y x.0 h x.1;
+      },
+    )

@@ -24,11 +24,7 @@ pub fn describe<'a>(alloc: Global, name: &'a Text, bytes: &[u8]) -> Result<Plain
 }
 
 /// The tree that the bytes of the named file are accepted as.
-pub fn accepted<'a>(
-    alloc: Global,
-    name: &'a Text,
-    bytes: &[u8],
-) -> Result<Checked, Refusal<'a>>
+pub fn accepted<'a>(alloc: Global, name: &'a Text, bytes: &[u8]) -> Result<Checked, Refusal<'a>>
     requires { length bytes.now ≤ file_limit }
     ensures { IsReadAs name.now bytes.now result }
 {

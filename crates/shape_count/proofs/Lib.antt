@@ -1,7 +1,7 @@
 mod Members
 mod Greatest
 mod Counted
-mod RootRule
+pub mod RootRule
 mod Pass
 mod Written
 mod Places

@@ -97,10 +97,11 @@ fn settle(
 
 /// How long the action of an instruction is at most, written out.
 ///
-/// A rule's value stands as often as it is named, and its action where it is said, both of one derivation; so for each rule and each
-/// pair of numbers of times that some instruction asks for, the greatest sum is found once, from the rules that name no other
-/// upwards. A rule is asked for one pair in nearly all descriptions, for several where it is a part at several places that name it
-/// unequally often. No stack grows with the rules. The one error is want of memory.
+/// A rule's value stands as often as it is named, and its action where it is said, both of one derivation. So for each rule and each
+/// pair of how often its action and its value count the greatest sum is found once, from the rules that it names; a rule whose value
+/// alone counts is asked for the greatest value, however often it counts. A rule has several pairs only where it is a part whose
+/// action and whose value both stand in an action, under several that name it unequally often. A stack of pairs stands in place of
+/// recursion by rules. The one error is want of memory.
 pub fn greatest_size(alloc: Global, names: &Names<'_>) -> Result<u32, Memory>
     requires free { IsFreeBelow 12 names.now }
     ensures { IfOk result (λ n. IsGreatest (IsRoot (table names.now)) (size_of_action (table names.now)) n) }
@@ -114,6 +115,7 @@ pub fn greatest_size(alloc: Global, names: &Names<'_>) -> Result<u32, Memory>
     };
     let mut known = IndexMap::new(alloc);
     let mut open = Vec::new(alloc);
+    // Each round makes a pair known, or puts those below it onto the stack: no description has so many that the rounds run out.
     for _ in 0..usize::MAX {
         match look(&known, whole) {
             None => {}
