@@ -26,12 +26,14 @@ use std::mem;
 fn gives_of(function: &Function) -> Gives
     ensures { giving_of result ≡ giving (defined function.now) }
 {
-    if is_main(&function.name.text) {
-        Gives::Either
-    } else {
-        match function.result {
-            ResultWord::Type(_) => Gives::Value,
-            ResultWord::Void(_) => Gives::Nothing,
+    match function.result {
+        ResultWord::Void(_) => Gives::Nothing,
+        ResultWord::Type(_) => {
+            if is_main(&function.name.text) {
+                Gives::Either
+            } else {
+                Gives::Value
+            }
         }
     }
 }

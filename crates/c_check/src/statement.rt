@@ -18,7 +18,7 @@ use c_tree::{Part, Stmt};
 use nk_base::Memory;
 use std::alloc::Global;
 
-/// Which `return` a function has: with a value, without, or in `main` either.
+/// Which `return` a function has: with a value, without, or in an `int main` either.
 ///
 /// The names are this project's own.
 #[derive(Clone, Copy)]

@@ -1,5 +1,5 @@
 -- A map's entries with a name put in.
-use Rattle.std.proofs.Common.{◌≡◌, refl, ap, Bool, true, false, List, [], ◌∷◌, ℕ, if◌then◌else◌}
+use Rattle.std.proofs.Common.{◌≡◌, refl, ap, List, [], ◌∷◌, ℕ, if◌then◌else◌}
 use Rattle.nk_base.specs.Text.{text_eq}
 use Rattle.indexmap.specs.IndexMap.{insert_entry}
 use Rattle.c_tree.specs.declared.meaning.Meaning.{Meaning}

@@ -1,10 +1,10 @@
 //! What names mean before the first global.
 
-ghost use Rattle.std.specs.Prelude.{◌≡◌, ◌+◌, [], IfOk, OnOk, map, length, codes};
+ghost use Rattle.std.specs.Prelude.{◌≡◌, ◌+◌, IfOk, OnOk, map, length, codes};
 ghost use Rattle.std.specs.HashMap.{HashMap};
 ghost use Rattle.nk_base.specs.Text.{text_eq};
 ghost use Rattle.c_tree.specs.Items.{item, Definition};
-ghost use Rattle.c_tree.specs.Names.{ports, parameters, gives_value, first_names, function_meanings, functions_in};
+ghost use Rattle.c_tree.specs.Names.{ports, parameters, gives_value, main_alone, first_names, function_meanings, functions_in};
 ghost use Rattle.c_names.specs.Shown.{names};
 
 use crate::scopes::{Scopes, put};
@@ -53,6 +53,15 @@ fn both_ports(alloc: Global) -> Result<IndexMap<Text, Meaning>, Memory>
     Ok(list)
 }
 
+/// `main`, which may be called nowhere.
+fn only_main(alloc: Global) -> Result<IndexMap<Text, Meaning>, Memory>
+    ensures { IfOk result (λ m. m.entries ≡ main_alone) }
+{
+    let mut list = IndexMap::new(alloc);
+    list.insert(Text::from_bytes(alloc, b"main")?, Meaning::Main)?;
+    Ok(list)
+}
+
 /// The number behind this one.
 fn next_number(number: usize) -> Result<usize, Memory>
     ensures { IfOk result (λ next. next ≡ number + 1) }
@@ -63,11 +72,11 @@ fn next_number(number: usize) -> Result<usize, Memory>
     }
 }
 
-/// What the names of the text's functions mean.
+/// What the names of the text's functions mean, with `main` also where the text has none.
 fn all_functions(alloc: Global, globals: &[CGlobal]) -> Result<IndexMap<Text, Meaning>, Memory>
-    ensures { IfOk result (λ m. m.entries ≡ function_meanings [] 0 (functions_in (map item globals.now))) }
+    ensures { IfOk result (λ m. m.entries ≡ function_meanings main_alone 0 (functions_in (map item globals.now))) }
 {
-    let mut list = IndexMap::new(alloc);
+    let mut list = only_main(alloc)?;
     let mut number: usize = 0;
     for one in globals {
         match one {

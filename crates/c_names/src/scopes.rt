@@ -12,7 +12,7 @@ use std::alloc::Global;
 use std::mem;
 
 /// What names mean at a place of the text: what is declared in the block so far, the blocks around it, the functions of
-/// the whole text, and the next free cell.
+/// the whole text, with `main` also where the text has none, and the next free cell.
 ///
 /// A look-up asks one map a block, from the innermost on. The form is this project's own.
 #[derive(Drop)]

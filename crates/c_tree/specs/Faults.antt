@@ -133,7 +133,7 @@ variables_faults n s (v ∷ vs) = variable_faults n s v ++ variables_faults n (b
 
 -- ---- statements
 
--- which `return` a function has: with a value, without, or in `main` either
+-- which `return` a function has: with a value, without, or in an `int main` either
 pub data Giving : Type 0 where
   GivesValue : Giving
   GivesNone : Giving
@@ -217,8 +217,9 @@ abbrev pub params_faults : Names → List Param → List Fault
 params_faults s [] = []
 params_faults s (p ∷ ps) = declared_faults s p.name ++ params_faults (behind_parameters s (p ∷ [])) ps
 
+-- a `void` function gives nothing, and an `int` function a value, but `int main` may do either
 abbrev pub giving : Definition → Giving
-giving f = if is_main f then GivesEither else if gives_value f.result then GivesValue else GivesNone
+giving f = if gives_value f.result then (if is_main f then GivesEither else GivesValue) else GivesNone
 
 abbrev pub global_faults : ℕ → Names → Item → List Fault
 global_faults n s (Variables v) = gvars_faults n s (gvars v)

@@ -22,8 +22,8 @@ use Rattle.c_tree.specs.Program.{Shape, size, sizes}
 abbrev pub Meanings : Type 0
 Meanings = List (List ℕ × Meaning)
 
--- What is declared in the block so far; what is seen of the blocks around it, the innermost first; the functions of the whole text; and the next free
--- cell.
+-- What is declared in the block so far; what is seen of the blocks around it, the innermost first; the functions of the whole text, with `main` also
+-- where the text has none; and the next free cell.
 pub record Names : Type 0 where
   pub block : Meanings
   pub outer : List Meanings
@@ -182,9 +182,13 @@ abbrev pub function_meanings : Meanings → ℕ → List Definition → Meanings
 function_meanings ms n [] = ms
 function_meanings ms n (f ∷ fs) = function_meanings (with_meaning ms f.name.text (function_meaning n f)) (next_number n f) fs
 
+-- a call of the name `main` is one of `main`, also where the text has none
+abbrev pub main_alone : Meanings
+main_alone = (codes "main", Main) ∷ []
+
 -- before the first global
 abbrev pub first_names : List Item → Names
-first_names gs = record { block = []; outer = ports ∷ []; functions = function_meanings [] 0 (functions_in gs); next = 0 }
+first_names gs = record { block = []; outer = ports ∷ []; functions = function_meanings main_alone 0 (functions_in gs); next = 0 }
 
 abbrev pub behind_gvar : Names → GVar → Names
 behind_gvar s v = with_variable places.Global s (gvar_name v).text (gvar_shape v)
