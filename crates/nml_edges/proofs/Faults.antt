@@ -16,7 +16,7 @@ use Rattle.nml_tree.proofs.SameText.{same_text, equal_text}
 use Rattle.nml_names.specs.declared.names.Declaration.{Declaration}
 use Rattle.nml_names.specs.Naming.{declaration}
 use Rattle.nml_names.specs.Below.{below, graph}
-use Rattle.nml_names.specs.Graphs.{IsOrder}
+use Rattle.graphs.specs.Graphs.{IsOrder}
 use Rattle.nml_names.proofs.RuleNames.{Stands, first_item, only_rule, rule_part, declared_rule, known_stands, some_same, numbered, named, first_least}
 use Rattle.nml_names.proofs.Cycles.{declared_here, some_item, below_length, length_rows}
 use Rattle.nml_known.specs.Known.{item_number}

@@ -13,7 +13,7 @@ use Rattle.nml_tree.specs.Reach.{IsBelow}
 use Rattle.nml_tree.specs.Refused.{IsFreeBelow}
 use Rattle.nml_tree.specs.Template.{given}
 use Rattle.nml_names.specs.Below.{graph}
-use Rattle.nml_names.specs.Graphs.{IsOrder}
+use Rattle.graphs.specs.Graphs.{IsOrder}
 use Rattle.nml_names.proofs.RuleNames.{first_item, only_rule, rule_part, declared_rule, some_same}
 use Rattle.nml_names.proofs.Cycles.{declared_here}
 use Rattle.nml_known.specs.Known.{item_number, parameter_told}

@@ -4,7 +4,7 @@ ghost use Rattle.std.specs.Prelude.{◌≡◌, List, ℕ, IfOk, MatchOption};
 ghost use Rattle.nml_edges.specs.Passed.{HasAll};
 ghost use Rattle.nml_edges.specs.Found as spec;
 ghost use Rattle.nml_names.specs.Below.{graph};
-ghost use Rattle.nml_names.specs.Graphs.{IsOrder};
+ghost use Rattle.graphs.specs.Graphs.{IsOrder};
 ghost use Rattle.nml_tree.specs.Refused.{IsFirstRule, IsFreeBelow};
 ghost use Rattle.nml_tree.specs.Table.{table};
 ghost use Rattle.nml_tree.specs.Valid.{EdgeFault};

@@ -5,7 +5,7 @@ ghost use Rattle.nk_base.specs.declared.number.Ty.{Ty};
 ghost use Rattle.nml_known.specs.Known.{all_known, item_number, known, parameter_told, told};
 ghost use Rattle.nml_names.specs.Below as below;
 ghost use Rattle.nml_known.specs.declared.known.Parameter.TheVariants as shown;
-ghost use Rattle.nml_names.specs.Graphs.{IsOrder};
+ghost use Rattle.graphs.specs.Graphs.{IsOrder};
 ghost use Rattle.nml_names.specs.Naming.{AreDeclared};
 ghost use Rattle.nml_tree.specs.Reach.{CycleFault};
 ghost use Rattle.nml_tree.specs.Table as spec;

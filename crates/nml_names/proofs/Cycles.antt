@@ -16,8 +16,8 @@ use Rattle.nml_tree.specs.Refused.{IsFirstRule}
 use Rattle.nml_names.specs.declared.names.Declaration.{Declaration}
 use Rattle.nml_names.specs.Naming.{declaration, AreDeclared}
 use Rattle.nml_names.specs.Below.{Names, first_number, rule_number, part, below, graph, looked}
-use Rattle.nml_names.specs.Graphs.{Graph, row, Among, Edge, Reaches, at_once, over, InRange}
-use Rattle.nml_names.proofs.Search.{starts_below}
+use Rattle.graphs.specs.Graphs.{Graph, row, Among, Edge, Reaches, at_once, over, InRange}
+use Rattle.graphs.proofs.Search.{starts_below}
 use Rattle.nml_names.proofs.RuleNames.{first_item, rule_part, only_rule, declared_rule, only_back, Stands, numbered, known_stands, named, first_least, some_same, alternatives_have, alternatives_from, parts_have, parts_from, IsPartOf, is_part_of}
 
 row_map : (h : Item → List ℕ) (items : List Item) (n : ℕ) (i : Item) → slice_get items n ≡ Some i → row (map h items) n ≡ h i

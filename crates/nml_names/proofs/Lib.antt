@@ -2,9 +2,6 @@ pub mod Notes
 pub mod DeclaredNames
 pub mod Items
 pub mod Turns
-pub mod Search
-pub mod Ranks
-pub mod Settled
 pub mod RuleNames
 pub mod Cycles
 pub mod Tallying

@@ -21,8 +21,8 @@ use Rattle.nml_tree.proofs.SameText.{same_text, equal_text}
 use Rattle.nml_names.specs.declared.names.Declaration.{Declaration}
 use Rattle.nml_names.specs.Naming.{constant_of, declaration, least_place, is_late}
 use Rattle.nml_names.specs.Below.{Names, first_number, part, with_alternatives, with_parts}
-use Rattle.nml_names.specs.Graphs.{Among}
-use Rattle.nml_names.proofs.Search.{among_front}
+use Rattle.graphs.specs.Graphs.{Among}
+use Rattle.graphs.proofs.Search.{among_front}
 
 -- the first item that declares the name
 abbrev pub first_item : List Item → Text → Option Item

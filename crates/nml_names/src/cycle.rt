@@ -3,22 +3,18 @@ ghost use Rattle.std.specs.Prelude.{◌≡◌, ◌<◌, ℕ, List, length, slice
 ghost use Rattle.nml_tree.specs.declared.tree.Item.{Item};
 ghost use Rattle.nml_tree.specs.Table.{table};
 ghost use Rattle.nml_tree.specs.Uses.{declares};
-ghost use Rattle.nml_names.specs.Graphs.{InRange, IsOrder, LeastOf, Reaches};
+ghost use Rattle.graphs.specs.Graphs.{InRange, IsOrder, LeastOf, Reaches};
 ghost use Rattle.nml_names.specs.Naming.{AreDeclared};
 ghost use Rattle.nml_names.specs.Below as spec;
 ghost use Rattle.nml_tree.specs.Reach.{CycleFault};
 ghost use Rattle.nml_tree.specs.Refused.{IsFirstRule};
 
 use crate::below::graph;
-use crate::first_loop::first_loop;
-use crate::guess::guess;
 use crate::names::{Declaration, declarations, declared_name};
-use crate::order::is_order;
-use crate::settle::settled;
+use graphs::{first_loop, order_of};
 use indexmap::IndexMap;
 use nk_base::{Memory, Text};
 use nml_tree::Desc;
-use sqlite_items::Items;
 use std::alloc::Global;
 
 /// The number of the first item that is a rule and reaches itself.
@@ -65,19 +61,4 @@ pub fn rule_order(
 {
     let rows = graph(alloc, names, d.items.as_slice())?;
     order_of(alloc, &rows)
-}
-
-/// The order that was guessed, where it is one; else one that is sought where no rule reaches itself.
-fn order_of(alloc: Global, graph: &[Items<usize>]) -> Result<Option<Vec<usize>>, Memory>
-    requires { InRange graph.now }
-    ensures { IfOk result (λ found. MatchOption found ((n : ℕ) × Reaches graph.now n n) (λ order. IsOrder graph.now order.items)) }
-{
-    let order = guess(alloc, graph)?.order;
-    if is_order(alloc, graph, order.as_slice())? {
-        return Ok(Some(order));
-    }
-    match first_loop(alloc, graph)? {
-        Some(_) => Ok(None),
-        None => Ok(Some(settled(alloc, graph)?)),
-    }
 }

@@ -3,20 +3,14 @@
 
 mod below;
 mod cycle;
-mod first_loop;
-mod guess;
 mod item;
 mod linear;
 mod name_fault;
 mod names;
 mod noting;
-mod order;
 mod parameters;
-mod rank;
-mod reach;
 mod root;
 mod scope;
-mod settle;
 mod tally;
 mod used;
 mod used_stmt;

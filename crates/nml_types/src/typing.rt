@@ -1,7 +1,7 @@
 //! A description as a typed one.
 
 ghost use Rattle.nml_names.specs.Below as below;
-ghost use Rattle.nml_names.specs.Graphs.{IsOrder};
+ghost use Rattle.graphs.specs.Graphs.{IsOrder};
 ghost use Rattle.nml_tree.specs.Places.{least_of};
 ghost use Rattle.nml_tree.specs.Refused.{IsFreeBelow, IsTyped, IsUntyped};
 ghost use Rattle.nml_tree.specs.TypeFault.{type_fault_places};

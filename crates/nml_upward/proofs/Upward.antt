@@ -13,7 +13,7 @@ use Rattle.nml_tree.specs.Worth.{is_rule}
 use Rattle.nml_names.specs.declared.names.Declaration.{Declaration}
 use Rattle.nml_names.specs.Naming.{declaration}
 use Rattle.nml_names.specs.Below.{below, graph}
-use Rattle.nml_names.specs.Graphs.{Grounded, grounded, Edge, IsOrder, StandsBefore}
+use Rattle.graphs.specs.Graphs.{Grounded, grounded, Edge, IsOrder, StandsBefore}
 use Rattle.nml_names.proofs.RuleNames.{Stands, first_item, only_rule, declared_rule}
 use Rattle.nml_names.proofs.Cycles.{RuleAt, rule_at, step_forth, part_is_rule, some_item, below_length, length_rows}
 use Rattle.nml_widths.proofs.ModeFits.{ParRight, zero_in}

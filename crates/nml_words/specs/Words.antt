@@ -12,7 +12,7 @@ use Rattle.nml_tree.specs.Valid.{WordFault}
 use Rattle.nml_known.specs.Known.{item_number, parameter_told}
 use Rattle.nml_known.specs.declared.known.Parameter.{Parameter}
 use Rattle.nml_known.specs.declared.known.Parameter.TheVariants as parameter
-use Rattle.nml_names.specs.Graphs.{StandsBefore}
+use Rattle.graphs.specs.Graphs.{StandsBefore}
 use Rattle.nml_upward.specs.Upward.{IsRule, HasNumber}
 use Rattle.nml_words.specs.declared.span.Span.{Span}
 use Rattle.nml_words.specs.Span.{span, IsSpan, par_spans, span_given, text_span, with_alternatives}

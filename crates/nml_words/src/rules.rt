@@ -2,7 +2,7 @@
 
 ghost use Rattle.std.specs.Prelude.{◌≡◌, length, map, IfOk, OnOk};
 ghost use Rattle.nml_names.specs.Below.{graph};
-ghost use Rattle.nml_names.specs.Graphs.{IsOrder};
+ghost use Rattle.graphs.specs.Graphs.{IsOrder};
 ghost use Rattle.nml_tree.specs.Refused.{IsFreeBelow};
 ghost use Rattle.nml_tree.specs.Table.{pars_of};
 ghost use Rattle.nml_words.specs.Span as span;

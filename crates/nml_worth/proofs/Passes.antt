@@ -16,7 +16,7 @@ use Rattle.nml_tree.specs.Table.{Text, Declared, declared, table, parameter_of, 
 use Rattle.nml_tree.specs.Worth.{is_rule, rule_worth, of_rule}
 use Rattle.nml_tree.proofs.RuleWorth.{rule_worth_is}
 use Rattle.nml_names.specs.Below.{below, graph, first_number, rule_number, part}
-use Rattle.nml_names.specs.Graphs.{IsOrder, Edge, Among, row}
+use Rattle.graphs.specs.Graphs.{IsOrder, Edge, Among, row}
 use Rattle.nml_names.specs.Naming.{declaration}
 use Rattle.nml_names.proofs.RuleNames.{first_item, rule_part, only_rule, declared_rule, Stands, numbered, alternatives_have, parts_have, IsPartOf, is_part_of, some_same}
 use Rattle.nml_worth.specs.declared.worth.Worth.{Worth}

@@ -2,7 +2,7 @@
 
 ghost use Rattle.std.specs.Prelude.{◌≡◌, ◌∷◌, IfOk, Contains, Option, map, option_map, slice_get};
 ghost use Rattle.nml_names.specs.Below.{graph};
-ghost use Rattle.nml_names.specs.Graphs.{IsOrder};
+ghost use Rattle.graphs.specs.Graphs.{IsOrder};
 ghost use Rattle.nml_tree.specs.declared.tree.Item.TheVariants as item;
 ghost use Rattle.nml_tree.specs.Refused.{IsFreeBelow};
 ghost use Rattle.nml_tree.specs.Table as tables;

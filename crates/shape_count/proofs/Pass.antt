@@ -13,7 +13,7 @@ use Rattle.nml_tree.specs.Table.{Text, Rule, Declared, Parameter, declared, tabl
 use Rattle.nml_tree.specs.Reach.{IsBelow}
 use Rattle.nml_tree.specs.Refused.{IsFreeBelow}
 use Rattle.nml_names.specs.Below.{below, graph}
-use Rattle.nml_names.specs.Graphs.{IsOrder, StandsBefore}
+use Rattle.graphs.specs.Graphs.{IsOrder, StandsBefore}
 use Rattle.nml_names.specs.Naming.{declaration}
 use Rattle.nml_names.proofs.Cycles.{RuleAt, declared_here, below_length, length_rows}
 use Rattle.nml_names.proofs.RuleNames.{first_item, some_same}

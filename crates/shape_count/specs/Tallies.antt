@@ -10,7 +10,7 @@ use Rattle.nml_tree.specs.Valid.{IsRoot}
 use Rattle.nml_known.specs.Known.{item_number, parameter_told}
 use Rattle.nml_known.specs.declared.known.Parameter.{Parameter}
 use Rattle.nml_known.specs.declared.known.Parameter.TheVariants as parameter
-use Rattle.nml_names.specs.Graphs.{StandsBefore}
+use Rattle.graphs.specs.Graphs.{StandsBefore}
 use Rattle.nml_upward.specs.Upward.{IsRule, HasNumber}
 use Rattle.shape_count.specs.declared.tally.Tally.{Tally}
 use Rattle.shape_count.specs.Tally.{tally, above, IsTally, with_alternatives, with_parameters}

@@ -1,5 +1,5 @@
 use Rattle.std.proofs.Common.{◌∙◌, sym, subst, IfOk}
-use Rattle.nml_names.specs.Graphs.{InRange, LeastOf, Reaches}
+use Rattle.graphs.specs.Graphs.{InRange, LeastOf, Reaches}
 use Rattle.nml_names.proofs.Cycles.{in_range, rows_are}
 use Rattle.nml_names.proofs.cycle.cycle_number.Goals as goal
 

@@ -1,5 +1,5 @@
 use Rattle.std.proofs.Common.{◌∙◌, sym, subst, ℕ, IfOk, MatchOption}
-use Rattle.nml_names.specs.Graphs.{InRange, IsOrder, Reaches}
+use Rattle.graphs.specs.Graphs.{InRange, IsOrder, Reaches}
 use Rattle.nml_names.specs.Below.{graph}
 use Rattle.nml_names.specs.Naming.{AreDeclared}
 use Rattle.nml_names.proofs.Cycles.{in_range, rows_are, told_of_names}

@@ -3,7 +3,7 @@ use Rattle.nml_tree.specs.declared.tree.Desc.{Desc}
 use Rattle.nml_tree.specs.Reach.{CycleFault}
 use Rattle.nml_tree.specs.Table.{table}
 use Rattle.nml_names.specs.Below as below
-use Rattle.nml_names.specs.Graphs.{IsOrder}
+use Rattle.graphs.specs.Graphs.{IsOrder}
 use Rattle.nml_known.proofs.names.Names.order.Goals as goal
 
 pub returns : goal.returns

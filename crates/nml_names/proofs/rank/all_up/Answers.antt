@@ -1,5 +1,0 @@
-use Rattle.nml_names.proofs.Ranks.{all_members}
-use Rattle.nml_names.proofs.rank.all_up.Goals as goal
-
-pub returns : goal.returns
-returns c = λ yes b h. all_members _ _ _ _ c.loop-i.i c.loop-i.invariant c.loop-i-test.false b h

@@ -1,5 +1,0 @@
-use Rattle.nml_names.proofs.Ranks.{Rising}
-use Rattle.nml_names.proofs.rank.rises.Given as goal
-
-abbrev pub invariant-loop-a : goal.invariant-loop-a
-invariant-loop-a l = Rising l.graph l.ranks l.limit l.a

@@ -1,5 +1,0 @@
-use Rattle.nml_names.proofs.Search.{Visiting}
-use Rattle.nml_names.proofs.reach.visit.Given as goal
-
-abbrev pub invariant-loop-i : goal.invariant-loop-i
-invariant-loop-i l = Visiting l.graph l.from l.fn.marks.items l.marks.items l.fn.work.items l.work.items l.names l.i
