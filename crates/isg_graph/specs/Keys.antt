@@ -1,5 +1,5 @@
 -- The node of a key.
-use Rattle.std.specs.Prelude.{ℕ, List, [], ◌∷◌, unwrap_or, slice_get}
+use Rattle.std.specs.Prelude.{ℕ, [], ◌∷◌, unwrap_or, slice_get}
 use Rattle.nml_tree.specs.declared.operator.Un.{Un}
 use Rattle.nml_tree.specs.declared.operator.Un.TheVariants as un
 use Rattle.nml_tree.specs.declared.operator.Bin.{Bin}
@@ -22,18 +22,18 @@ abbrev pub node_of : Key → Node
 node_of k =
     unwrap_or
     (slice_get
-        (node.Number k.number
-        ∷ node.Field k.first
-        ∷ node.Cell k.first k.second
-        ∷ node.Trn k.first
-        ∷ node.Inp
-        ∷ node.Unary (un_at k.operator k.second k.third) k.first
-        ∷ node.Binary (bin_at k.operator) k.first k.second
-        ∷ node.Choose k.first k.second k.third
-        ∷ node.SetCell k.first k.second k.third
-        ∷ node.SetTrn k.first k.second
-        ∷ node.Put k.first
-        ∷ node.Halt k.first
-        ∷ [])
-        k.kind)
+    (node.Number k.number
+    ∷ node.Field k.first
+    ∷ node.Cell k.first k.second
+    ∷ node.Trn k.first
+    ∷ node.Inp
+    ∷ node.Unary (un_at k.operator k.second k.third) k.first
+    ∷ node.Binary (bin_at k.operator) k.first k.second
+    ∷ node.Choose k.first k.second k.third
+    ∷ node.SetCell k.first k.second k.third
+    ∷ node.SetTrn k.first k.second
+    ∷ node.Put k.first
+    ∷ node.Halt k.first
+    ∷ [])
+    k.kind)
     node.Inp

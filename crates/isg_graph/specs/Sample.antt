@@ -1,5 +1,5 @@
 -- Worked examples of the definitions, each by computation: the nodes of two statements, `A = n;` and `R[d] = R[s];`.
-use Rattle.std.specs.Prelude.{◌≡◌, refl, ℕ, pos, List, [], ◌∷◌}
+use Rattle.std.specs.Prelude.{◌≡◌, refl, pos, List, [], ◌∷◌}
 use Rattle.nml_tree.specs.Act.{Done, Number, Field, Cell, SetCell}
 use Rattle.isg_graph.specs.declared.node.Node.{Node}
 use Rattle.isg_graph.specs.declared.node.Node.TheVariants as node

@@ -34,7 +34,13 @@ fn get(nodes: &[Node], n: u32) -> &Node
 /// the way to it.
 ///
 /// It says so wherever 128 bits hold the value of each expression in it. It takes no memory. The rule is this project's own.
-pub fn value_at(nodes: &[Node], n: u32, fields: &[i128], s: &State, next: Option<i64>) -> (i128, bool)
+pub fn value_at(
+    nodes: &[Node],
+    n: u32,
+    fields: &[i128],
+    s: &State,
+    next: Option<i64>,
+) -> (i128, bool)
     requires falls { Falls nodes.now }
     requires within { n < length nodes.now }
     ensures { IsNarrow (view fields.now s.now next) (term nodes.now n) → IsWorth (view fields.now s.now next) (term nodes.now n) result.0 result.1 }
