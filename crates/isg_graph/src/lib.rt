@@ -9,4 +9,4 @@ mod value;
 pub use grow::add;
 pub use key::Key;
 pub use node::{Node, Numbers};
-pub use value::value_at;
+pub use value::{node_at, value_at};

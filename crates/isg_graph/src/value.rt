@@ -12,7 +12,7 @@ use crate::node::Node;
 use attr_eval::{binary, is_zero, unary};
 use nml_state::State;
 
-/// The node of this number, and what it writes out.
+/// The node of this number, and what it writes out. It takes no memory. The rule is this project's own.
 pub fn node_at(nodes: &[Node], n: u32) -> &Node
     requires falls { Falls nodes.now }
     requires within { n < length nodes.now }
@@ -117,7 +117,7 @@ fn pick(z: i128, x: u32, y: u32) -> u32
     if is_zero(z) { y } else { x }
 }
 
-pub fn either(a: bool, b: bool) -> bool
+fn either(a: bool, b: bool) -> bool
     ensures { result ≡ a || b }
 {
     a || b
