@@ -1,5 +1,5 @@
 -- In a description in which all is right 128 bits hold what each expression of an instruction is worth.
-use Rattle.std.proofs.Common.{ℕ, ◌+◌, ◌-◌, ◌≤◌, List, [], ◌∷◌, ◌≡◌, ℤ, pos, length, refl, sym, ap, subst, Some, None, Option, Bool, true, false, cond}
+use Rattle.std.proofs.Common.{ℕ, ◌+◌, List, ◌≡◌, ℤ, pos, length, sym, subst, Some, None, Option, Bool, true, false, cond}
 use Rattle.std.specs.Map.{lookup}
 use Rattle.std.specs.Prelude.{codes}
 use Rattle.nk_base.specs.Text.{text_eq}
@@ -14,7 +14,7 @@ use Rattle.nml_tree.specs.Act.{Term, Act, Cell, Trn, Inp, Out, Unary, Binary, Ch
 use Rattle.nml_tree.specs.Table.{Text, Table, Rule, Declared, declared, size_number, size_or_none}
 use Rattle.nml_tree.specs.Derivation.{Derivation, Arguments, Pick, Compose, NoMore, Part, Field, IsDerivation, Fill, fields, fields_of}
 use Rattle.nml_tree.specs.Walk.{IsWalkOf}
-use Rattle.nml_tree.specs.Value.{View, value}
+use Rattle.nml_tree.specs.Value.{View}
 use Rattle.nml_tree.specs.Worth.{rule_scope, of_ty, is_type}
 use Rattle.nml_tree.specs.Written as written
 use Rattle.nml_tree.specs.Written.{Argument, source, named, reference, index_term, term, action_of, arguments, action}

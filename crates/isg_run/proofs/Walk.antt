@@ -4,8 +4,7 @@ use Rattle.std.proofs.lemmas.List.{drop_all}
 use Rattle.nk_base.specs.declared.number.Ty.{Ty}
 use Rattle.nml_tree.specs.Table.{Table}
 use Rattle.nml_tree.specs.Act.{Done}
-use Rattle.nml_state.specs.Cells.{Shown}
-use Rattle.attr_exec.specs.Ran.{Scene, Same, ran, scene}
+use Rattle.attr_exec.specs.Ran.{Scene, Same, ran}
 use Rattle.attr_exec.specs.Ready.{Ready}
 use Rattle.attr_exec.proofs.Running.{same_self, same_trans, ready_same}
 use Rattle.isg_graph.specs.declared.node.Node.{Node}

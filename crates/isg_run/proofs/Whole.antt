@@ -26,9 +26,12 @@ use Rattle.attr_exec.proofs.Top.{Ran, idle, ran_is, narrow_ran}
 use Rattle.isg_run.specs.Narrow.{AreNarrow}
 use Rattle.isg_run.proofs.Narrows.{narrow}
 
+pub free_of : (d : Desc) → IsTyped d → IsFreeBelow 8 d
+free_of d typed j less = typed j (omega (arith, less))
+
 module _ (d : Desc) (typed : IsTyped d) (x : Derivation) (ks : List ℕ) (zs : List ℤ) (next : Option ℤ) (old s : Shown) (done : Done) (out : Ty) (a : Act) where
   free : IsFreeBelow 8 d
-  free j less = typed j (omega (arith, less))
+  free = free_of d typed
 
   ready : IsStateOf (table d) old → NextFits (table d) next → Ready (table d) next old
   ready is fits = record { lawful = lawful d free; types_are = is.types_are; trn_types_are = is.trn_types_are; next_fits = fits }

@@ -7,7 +7,7 @@ ghost use Rattle.attr_exec.specs.Seen.{view};
 ghost use Rattle.isg_graph.specs.Narrow.{IsWorth};
 ghost use Rattle.isg_graph.specs.Written.{AllBelow, Falls, action, statement, term};
 ghost use Rattle.isg_run.specs.Narrow.{AreNarrow, IsAlwaysNarrow};
-ghost use Rattle.nml_tree.specs.Act.{Done};
+ghost use Rattle.nml_tree.specs.Act as act;
 ghost use Rattle.nml_tree.specs.Table.{Table};
 ghost use Rattle.nml_tree.specs.Value.{is_true};
 
@@ -53,7 +53,7 @@ fn run_one(
     requires falls { Falls nodes.now }
     requires within { n < length nodes.now }
     ensures same { Same s.old s.new }
-    ensures ran { (t : Table) → Ready t next s.old → AreNarrow t fields.now (statement nodes.now n Done) → scene s.new result ≡ ran out fields.now next (statement nodes.now n Done) (scene s.old done) }
+    ensures ran { (t : Table) → Ready t next s.old → AreNarrow t fields.now (statement nodes.now n act.Done) → scene s.new result ≡ ran out fields.now next (statement nodes.now n act.Done) (scene s.old done) }
 {
     match node_at(nodes, n) {
         Node::SetCell(k, i, e) => {
