@@ -21,14 +21,14 @@ pub fn add(nodes: &mut Vec<Node>, known: &mut IndexMap<Key, u32>, x: Node) -> Re
     ensures falls { Falls nodes.new.items }
     ensures extends { Extends nodes.old.items nodes.new.items }
 {
-    let key = key_of(&x);
-    if let Some(n) = find(nodes, known, key, &x) {
+    let Some(key) = key_of(&x) else {
+        return push(nodes, x);
+    };
+    if let Some(n) = find(nodes, known, key) {
         return Ok(n);
     }
     let n = push(nodes, x)?;
-    if let Some(key) = key {
-        known.insert(key, n)?;
-    }
+    known.insert(key, n)?;
     Ok(n)
 }
 
@@ -50,12 +50,10 @@ fn push(nodes: &mut Vec<Node>, x: Node) -> Result<u32, Memory>
     }
 }
 
-/// The number of a node that is x, whose key this is.
-fn find(nodes: &[Node], known: &IndexMap<Key, u32>, wanted: Option<Key>, x: &Node) -> Option<u32>
-    requires { IfSome wanted (λ k. node_of k ≡ x.now) }
-    ensures { IfSome result (λ n. slice_get nodes.now n ≡ Some x.now) }
+/// The number of a node with this key.
+fn find(nodes: &[Node], known: &IndexMap<Key, u32>, wanted: Key) -> Option<u32>
+    ensures { IfSome result (λ n. slice_get nodes.now n ≡ Some (node_of wanted)) }
 {
-    let wanted = wanted?;
     let n = *known.get(&wanted)?;
     let found = key_of(nodes.get(n as usize)?)?;
     if found == wanted { Some(n) } else { None }
