@@ -14,8 +14,10 @@ use attr_eval::binary;
 use nml_state::{Exec, State};
 use nml_tree::Bin;
 
-/// Makes the writes, and counts PC, the storage of this number, up by one where it isn't written.
-pub fn finish(pc: usize, s: &mut State)
+/// Makes the writes, and counts PC, the storage of this number, up by one where it isn't written. It takes no memory.
+///
+/// That PC goes on by one is this project's own rule.
+pub fn settle(pc: usize, s: &mut State)
     ensures ends { Ends s.old s.new }
     ensures cells { (t : Table) → HasPc t s.old → pc ≡ spec.pc t → s.new ≡ record s.old { cells = stepped t (with_writes s.old.cells s.old.kept) s.old.kept; trns = map (λ z. pos 0) s.old.trns; kept = [] } }
 {
@@ -36,7 +38,7 @@ fn step(pc: usize, s: &mut State)
     s.give_cell(pc, binary(Bin::Add, at, 1));
 }
 
-/// What is answered of an instruction that ran.
+/// What is answered of an instruction that ran. It takes no memory. The rule is this project's own.
 pub fn answer(done: Done) -> Exec
     ensures { (out : Ty) (halt : Option ℕ) → IsNarrow out done → IsPort out → done.halt ≡ option_map pos halt → result ≡ told.Done done.out done.took halt }
 {

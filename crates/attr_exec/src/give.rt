@@ -9,6 +9,8 @@ use nk_base::{Ty, wrap};
 use nml_state::{State, wrapped_value};
 
 /// What an instruction does besides its writes: its output and its halt code, where there is one, and whether it takes the input.
+///
+/// The form is this project's own.
 #[derive(Clone, Copy)]
 pub struct Done {
     pub out: Option<i128>,
@@ -16,7 +18,7 @@ pub struct Done {
     pub halt: Option<i128>,
 }
 
-/// The same, where the input was read besides or wasn't.
+/// The same, where the input was read besides or wasn't. It takes no memory. The rule is this project's own.
 pub fn look_at(done: Done, took: bool) -> Done
     ensures { result ≡ looked_at took done }
 {
@@ -27,8 +29,8 @@ pub fn look_at(done: Done, took: bool) -> Done
     }
 }
 
-/// The same with an output of this type, where the type can hold it.
-fn put_out(ty: Ty, z: i128, done: Done) -> Done
+/// The same with an output of this type, where the type can hold it. It takes no memory. The rule is this project's own.
+pub fn put_out(ty: Ty, z: i128, done: Done) -> Done
     ensures { result ≡ spec.put_out ty z done }
 {
     match wrapped_value(ty, z) {
@@ -41,7 +43,7 @@ fn put_out(ty: Ty, z: i128, done: Done) -> Done
     }
 }
 
-/// The same with a halt code.
+/// The same with a halt code. It takes no memory. The rule is this project's own.
 pub fn halt_with(z: i128, done: Done) -> Done
     ensures { result ≡ spec.halted_with z done }
 {

@@ -9,7 +9,7 @@ ghost use Rattle.nml_tree.specs.Legal.{IsLegal};
 ghost use Rattle.nml_tree.specs.Table.{table};
 ghost use Rattle.nml_tree.specs.Walk.{IsWalkOf};
 
-use crate::finish::{answer, finish};
+use crate::finish::{answer, settle};
 use crate::give::Done;
 use crate::port::{out_type, storage_number};
 use crate::run::run;
@@ -49,7 +49,7 @@ pub fn exec(d: &Typed, v: &Deriv, s: &mut State, next: Option<i64>) -> Exec
         s.forget();
         return Exec::Wants;
     }
-    finish(storage_number(items, b"PC".as_slice()), s);
+    settle(storage_number(items, b"PC".as_slice()), s);
     answer(done)
 }
 

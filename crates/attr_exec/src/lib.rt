@@ -11,4 +11,7 @@ mod read;
 mod run;
 mod statement;
 
+pub use finish::{answer, settle};
+pub use give::{Done, halt_with, look_at, put_out};
 pub use instruction::exec;
+pub use port::{out_type, storage_number};

@@ -12,7 +12,8 @@ use nk_base::Ty;
 use nml_state::{find, type_value};
 use nml_tree::{Item, PortWord, TypeExpr};
 
-/// The type of the first `out` that the items declare; that of a `bool` where there is none.
+/// The type of the first `out` that the items declare; that of a `bool` where there is none. It takes no memory. The rule is this
+/// project's own.
 pub fn out_type(items: &[Item]) -> Ty
     requires { EachRight [] items.now }
     ensures { result ≡ spec.out_type (entries [] items.now) }
@@ -45,7 +46,7 @@ fn out_port(item: &Item) -> Option<&TypeExpr>
     }
 }
 
-/// The number of the storage of this name; 0 where the name is that of none.
+/// The number of the storage of this name; 0 where the name is that of none. It takes no memory. The rule is this project's own.
 pub fn storage_number(items: &[Item], name: &[u8]) -> usize
     ensures { result ≡ spec.storage_number (declared (entries [] items.now) name.now) }
 {

@@ -22,7 +22,7 @@ pub returns-then-wants-clause-state : goal.returns-then-wants-clause-state
 returns-then-wants-clause-state c = ends_state _ c.args.s.now c.run-done.new.s c.forget.new.self c.requires.state c.run-done.ensures.same (forgot_ends c.run-done.new.s c.forget.new.self c.forget.ensures)
 
 pub returns-clause-state : goal.returns-clause-state
-returns-clause-state c = ends_state _ c.args.s.now c.run-done.new.s c.finish.new.s c.requires.state c.run-done.ensures.same c.finish.ensures.ends
+returns-clause-state c = ends_state _ c.args.s.now c.run-done.new.s c.settle.new.s c.requires.state c.run-done.ensures.same c.settle.ensures.ends
 
 pub returns-then-wants-clause-done : goal.returns-then-wants-clause-done
 returns-then-wants-clause-done c = λ x w legal.
@@ -54,5 +54,5 @@ returns-clause-done c = λ x w legal.
     let told = c.answer.ensures (out_type (table c.d.inside.desc)) (option_map unsigned_abs c.run-done.result.halt) narrow (out_is_small c.d.inside.desc (λ j less. typed j (omega (arith, less)))) halt in
     let pc = pc_whole c.d.inside.desc typed c.run-done.new.s (c.run-done.ensures.same.0 ∙ state.types_are) in
     let at = rw (c.as_slice-4.ensures, c.as_slice-items.ensures) at c.storage_number.ensures in
-    let new = finished_is (table c.d.inside.desc) c.args.s.now c.run-done.new.s c.finish.new.s state c.run-done.ensures.same (c.finish.ensures.cells (table c.d.inside.desc) pc at) in
-    rw (← c.d.view_is) (does_is _ x c.args.v.now.fields.items c.args.next c.args.s.now c.run-done.new.s c.run-done.result r c.finish.new.s c.answer.result (option_map unsigned_abs c.run-done.result.halt) c.run-done.ensures.same.2 halt told new (sym c.wants.ensures ∙ c.if-wants.false))
+    let new = finished_is (table c.d.inside.desc) c.args.s.now c.run-done.new.s c.settle.new.s state c.run-done.ensures.same (c.settle.ensures.cells (table c.d.inside.desc) pc at) in
+    rw (← c.d.view_is) (does_is _ x c.args.v.now.fields.items c.args.next c.args.s.now c.run-done.new.s c.run-done.result r c.settle.new.s c.answer.result (option_map unsigned_abs c.run-done.result.halt) c.run-done.ensures.same.2 halt told new (sym c.wants.ensures ∙ c.if-wants.false))

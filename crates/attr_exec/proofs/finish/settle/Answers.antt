@@ -1,5 +1,5 @@
 use Rattle.attr_exec.proofs.Top.{made_ends, made_only}
-use Rattle.attr_exec.proofs.finish.finish.Goals as goal
+use Rattle.attr_exec.proofs.finish.settle.Goals as goal
 
 pub returns-then-not-written-clause-ends : goal.returns-then-not-written-clause-ends
 returns-then-not-written-clause-ends c = made_ends c.args.s.now c.commit.new.self c.step.new.s c.commit.ensures c.step.ensures.same

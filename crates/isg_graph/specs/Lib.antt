@@ -1,0 +1,5 @@
+pub mod Keys
+pub mod Written
+pub mod Grow
+pub mod Narrow
+pub mod Sample

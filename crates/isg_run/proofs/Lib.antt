@@ -1,0 +1,4 @@
+pub mod Narrows
+pub mod Splits
+pub mod Walk
+pub mod Whole
