@@ -74,21 +74,15 @@ fn compiled<'a>(
     requires high { width ≤ 32 }
     ensures { IsCompiled name.now bytes.now width result }
 {
-    let tree = program_of(alloc, name, bytes, width)?;
+    let tree = program_of(alloc, name, bytes)?;
     checked_program(alloc, name, tree, width)
 }
 
-/// The program that the bytes of the named file spell; its numbers will have so many bits.
-fn program_of<'a>(
-    alloc: Global,
-    name: &'a Text,
-    bytes: &[u8],
-    width: u32,
-) -> Result<CTree, Refusal<'a>>
+/// The program that the bytes of the named file spell.
+fn program_of<'a>(alloc: Global, name: &'a Text, bytes: &[u8]) -> Result<CTree, Refusal<'a>>
     requires { length bytes.now ≤ file_limit }
-    ensures { IsProgramSpelled name.now bytes.now width result }
+    ensures { (n : ℕ) → IsProgramSpelled name.now bytes.now n result }
 {
-    let _ = width;
     match read(alloc, bytes) {
         Ok(tree) => Ok(tree),
         Err(fault) => Err(refusal_of(name, fault)),
