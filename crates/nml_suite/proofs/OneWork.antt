@@ -3,6 +3,7 @@ use Rattle.std.proofs.Common.{◌≡◌, ℕ, suc, List, [], ◌∷◌, ℤ, Opt
 use Rattle.plain_tree.specs.Description.{Description}
 use Rattle.plain_tree.specs.IsPlain.{IsPlain}
 use Rattle.nml_tree.specs.declared.tree.Desc.{Desc}
+use Rattle.nml_tree.specs.Table.{table}
 use Rattle.nml_refusals.proofs.Summaries.{one_summary}
 use Rattle.image_file.specs.File.{Picture, Init, HasFile}
 use Rattle.image_file.proofs.OneFile.{one}
@@ -75,7 +76,7 @@ simplifies_one name tree goes went xs ys w v h (Plain d b g) (Plain c k f) = h c
 
 sums_one : (tree : Desc) (xs ys : List Asked) (w v : Work) → SumsUp tree xs w → SumsUp tree ys v → w ≡ v
 sums_one tree xs ys w v (Summed c b s e) (Summed a z t f) =
-    let same = one_summary tree c b a z s t in both_end _ _ xs ys w v (λ j. accepted (same.0 j) (same.1 j)) e f
+    let same = one_summary (table tree) c b a z s t in both_end _ _ xs ys w v (λ j. accepted (same.0 j) (same.1 j)) e f
 
 -- ---- `asm`
 

@@ -60,15 +60,15 @@ write_failed name = reply statuses.Write (name ++ codes ": write failed\n")
 abbrev pub program_fault : List ℕ → CFault → Reply
 program_fault name fault = reply statuses.Source (name ++ codes ": " ++ c_fault_text fault ++ codes "\n")
 
--- what a description lacks for programs
+-- what a description lacks for programs, behind its name
 abbrev pub lacking_text : Lacking → List ℕ
-lacking_text lacking.Dm = codes "DM"
-lacking_text lacking.In = codes "IN"
-lacking_text lacking.Out = codes "OUT"
+lacking_text lacking.Dm = codes ": K4 NoTarget DM\n"
+lacking_text lacking.In = codes ": K4 NoTarget IN\n"
+lacking_text lacking.Out = codes ": K4 NoTarget OUT\n"
 
 -- a description that lacks it
 abbrev pub no_target : List ℕ → Lacking → Reply
-no_target name what = reply statuses.NotClosed (name ++ codes ": K4 NoTarget " ++ lacking_text what ++ codes "\n")
+no_target name what = reply statuses.NotClosed (name ++ lacking_text what)
 
 -- no instruction has the tokens of this line
 abbrev pub no_match : List ℕ → ℕ → Reply

@@ -6,7 +6,7 @@ ghost use Rattle.nml_suite.specs.Reading.{store};
 ghost use Rattle.nml_suite.specs.Refusing.{IsCompiled, IsNumbered, IsProgramChecked, IsProgramSpelled, IsTargeted, Settles, evaluated, refused};
 ghost use Rattle.nml_suite.specs.Reply.{program_fault, starved};
 
-use crate::describe::accepted;
+use crate::describe::{accepted, tree_of};
 use crate::load::load;
 use crate::refusal::Refusal;
 use c_check::check;
@@ -40,7 +40,7 @@ pub fn prepare_program<'a, F: Files>(
 {
     let bytes = load(alloc, files, description)?;
     let tree = accepted(alloc, description, &bytes)?;
-    let width = targeted(alloc, description, &tree.typed().desc)?;
+    let width = targeted(alloc, description, tree_of(&tree))?;
     let text = load(alloc, files, source)?;
     let program = compiled(alloc, source, &text, width)?;
     let entry = load(alloc, files, input)?;

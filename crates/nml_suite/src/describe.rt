@@ -21,7 +21,7 @@ pub fn describe<'a>(alloc: Global, name: &'a Text, bytes: &[u8]) -> Result<Plain
     ensures { IsDescribed name.now bytes.now result }
 {
     let tree = accepted(alloc, name, bytes)?;
-    described(alloc, name, &tree.typed().desc)
+    described(alloc, name, tree_of(&tree))
 }
 
 /// The tree that the bytes of the named file are accepted as.
@@ -31,6 +31,13 @@ pub fn accepted<'a>(alloc: Global, name: &'a Text, bytes: &[u8]) -> Result<Check
 {
     let tree = spelled(alloc, name, bytes)?;
     checked(alloc, name, tree)
+}
+
+/// The tree of a description that is accepted.
+pub fn tree_of(accepted: &Checked) -> &Desc
+    ensures { result.now ≡ accepted.now }
+{
+    &accepted.typed().desc
 }
 
 /// The tree that the bytes of the named file spell.
