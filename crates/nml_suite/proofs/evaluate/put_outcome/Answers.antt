@@ -20,4 +20,4 @@ returns-in_err-put_ending-clause-run g c =
     let r = c.args.ready.now in
     let p = err_from_is_err_and c.from_residual.result c.from_residual.ensures.1 in
     rw p.1
-    (put_cut_at_end (outcome (resolved r.program.0) r.program.1 r.numbers.items c.args.turns) c.in-Ok.stop _ _ _ _ (rw c.deref.ensures.value at c.in-Ok.ensures.run) c.in_err-put_ending.ensures.err)
+    (put_cut_at_end (outcome (resolved r.program.0) r.program.1 r.numbers.items c.args.turns) c.in-Ok.stop _ _ _ faults.Failed (rw c.deref.ensures.value at c.in-Ok.ensures.run) c.in_err-put_ending.ensures.err)
