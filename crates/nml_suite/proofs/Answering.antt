@@ -108,7 +108,7 @@ other_told s t u f g (Some (Run d i x n)) status o told = absurd o
 other_told s t u f g (Some (Check d)) status o told = absurd o
 other_told s t u f g (Some (Dis d i)) status o told = told_alone s s t u f g (Some (Dis d i)) not_built status (here s _ _ _ (inl (record { last = refl; is = refl }))) told
 other_told s t u f g (Some (Cc d c i)) status o told = told_alone s s t u f g (Some (Cc d c i)) not_built status (here s _ _ _ (inl (record { last = refl; is = refl }))) told
-other_told s t u f g (Some (Ceval d c x n)) status o told = told_alone s s t u f g (Some (Ceval d c x n)) not_built status (here s _ _ _ (inl (record { last = refl; is = refl }))) told
+other_told s t u f g (Some (Ceval d c x n)) status o told = absurd o
 other_told s t u f g (Some (Demo k)) status o told = told_alone s s t u f g (Some (Demo k)) not_built status (here s _ _ _ (inl (record { last = refl; is = refl }))) told
 
 -- words of no form

@@ -1,17 +1,23 @@
 -- How the steps of a command are put together: the first files lead to what the rest comes to.
-use Rattle.std.proofs.Common.{Some, ◌≡◌, ◌⊎◌, inl, inr, ℕ, List, [], ◌∷◌, ◌++◌, None, Result, Ok, Err, refl, sym, ap, subst, append_assoc}
+use Rattle.std.proofs.Common.{Some, ◌≡◌, ◌⊎◌, inl, inr, ℕ, List, [], ◌∷◌, ◌++◌, ℤ, None, Result, Ok, Err, refl, sym, ap, subst, append_assoc}
 use Rattle.plain_tree.specs.Description.{Description}
 use Rattle.image_file.specs.Seen.{picture_of}
 use Rattle.image_file.specs.declared.image.Image.{Image}
 use Rattle.plain_tools.specs.PlainText.{lines}
 use Rattle.nml_suite.specs.Answer.{AreNamed}
-use Rattle.nml_suite.specs.Coming.{SumsUp, Summed, Opens, Short, Opened, Accepts, Faulty, Accepted, Simplifies, Other, Plain, AssemblesTo, NotPlain, NoMatch, Words, Loads, NoImage, Loaded, RunsTo, Input, Ran, IsImageOf, first_input}
+use Rattle.nml_suite.specs.Coming.{SumsUp, Summed, Opens, Short, Opened, Accepts, Faulty, Accepted, Simplifies, Other, Plain, AssemblesTo, NotPlain, NoMatch, Words, Loads, NoImage, Loaded, RunsTo, Input, Ran, IsImageOf, first_input, Targets, NoTarget, Targeted, Compiles, FaultyProgram, SoundProgram, EvaluatesTo, BadNumber, Evaluated}
+use Rattle.nml_target.specs.Target.{target}
+use Rattle.input_lines.specs.Input.{numbers}
+use Rattle.c_tree.specs.declared.program.CTree.{CTree}
+use Rattle.c_tree.specs.Meaning.{outcome}
+use Rattle.c_tree.specs.Resolve.{resolved}
+use Rattle.nml_suite.specs.Programs.{IsProgram}
 use Rattle.nml_suite.specs.Described.{IsAccepted, Describes}
 use Rattle.nml_tree.specs.declared.tree.Desc.{Desc}
 use Rattle.nml_types.specs.declared.checking.Summary.{Summary}
 use Rattle.nml_suite.specs.Reading.{Store, Reading, Got, IsShort, Asked, IsRead}
-use Rattle.nml_suite.specs.Reply.{assembled, starved, unread}
-use Rattle.nml_suite.specs.Refusing.{refused, settled, summed, Settles, Arrives, IsUnread, IsReadAs, IsSummedUp, IsDescribed, IsAssembledText, IsFound, IsBlankInput, TellsRunOf}
+use Rattle.nml_suite.specs.Reply.{assembled, starved, unread, told_outcome}
+use Rattle.nml_suite.specs.Refusing.{refused, settled, summed, Settles, Arrives, IsUnread, IsReadAs, IsSummedUp, IsDescribed, IsAssembledText, IsFound, IsBlankInput, TellsRunOf, IsTargeted, IsCompiled, IsNumbered}
 use Rattle.nml_suite.specs.Work.{Work, telling}
 use Rattle.nml_suite.specs.declared.assemble.Assembled.{Assembled}
 use Rattle.nml_suite.specs.declared.refusal.Refusal.{Refusal}
@@ -127,3 +133,37 @@ blank b x steps d words text h = on b [] _ (TellsRunOf steps d words) (λ more w
 pub not_blank : (b : Store) (x : List ℕ) (steps : ℕ) (d : Description) (words text : List ℕ) (e : Refusal) → IsBlankInput x text (Err e)
     → Settles b b [] (RunsTo x steps d words text) (telling (refused e))
 not_blank b x steps d words text e h = here b [] _ _ (inl (Input h.0 h.1 (record { last = refl; is = ap telling h.2 })))
+
+-- ---- `ceval`
+
+pub accepted : (b : Store) (names : List (List ℕ)) (name bytes : List ℕ) (tree : Desc) (goes : Desc → List Asked → Work → Type 0) → IsAccepted bytes tree
+    → Arrives b b names names (Accepts name bytes goes) (goes tree)
+accepted b names name bytes tree goes a = on b names _ (goes tree) (λ more w g. Accepted tree a g)
+
+pub targeted : (b : Store) (names : List (List ℕ)) (name : List ℕ) (tree : Desc) (n : ℕ) (goes : ℕ → List Asked → Work → Type 0) → target tree ≡ Ok n
+    → Arrives b b names names (Targets name tree goes) (goes n)
+targeted b names name tree n goes e = on b names _ (goes n) (λ more w g. Targeted n e g)
+
+pub not_targeted : (b : Store) (names : List (List ℕ)) (name : List ℕ) (tree : Desc) (e : Refusal) (goes : ℕ → List Asked → Work → Type 0)
+    → IsTargeted name tree (Err e) → Settles b b names (Targets name tree goes) (telling (refused e))
+not_targeted b names name tree e goes (inl wants) = here b names _ _ (inr (ap telling wants))
+not_targeted b names name tree e goes (inr x) = here b names _ _ (inl (NoTarget x.what x.lacks (record { last = refl; is = ap telling x.is })))
+
+pub compiled : (b : Store) (names : List (List ℕ)) (name bytes : List ℕ) (n : ℕ) (tree : CTree) (goes : CTree → List Asked → Work → Type 0) → IsProgram bytes n tree
+    → Arrives b b names names (Compiles name bytes n goes) (goes tree)
+compiled b names name bytes n tree goes is = on b names _ (goes tree) (λ more w g. SoundProgram tree is g)
+
+pub not_compiled : (b : Store) (names : List (List ℕ)) (name bytes : List ℕ) (n : ℕ) (e : Refusal) (goes : CTree → List Asked → Work → Type 0)
+    → IsCompiled name bytes n (Err e) → Settles b b names (Compiles name bytes n goes) (telling (refused e))
+not_compiled b names name bytes n e goes (inl wants) = here b names _ _ (inr (ap telling wants))
+not_compiled b names name bytes n e goes (inr x) = here b names _ _ (inl (FaultyProgram x.fault x.faulty (record { last = refl; is = ap telling x.is })))
+
+pub numbered : (b : Store) (x : List ℕ) (turns n bits : ℕ) (tree : CTree) (text : List ℕ) (found : List ℤ) → bits ≡ n → numbers n text ≡ Ok found
+    → Settles b b [] (EvaluatesTo x turns n tree text) (telling (told_outcome (outcome (resolved tree) bits found turns)))
+numbered b x turns n bits tree text found same is =
+    here b [] _ _ (inl (Evaluated found is (record { last = refl; is = ap (λ k. telling (told_outcome (outcome (resolved tree) k found turns))) same })))
+
+pub not_numbered : (b : Store) (x : List ℕ) (turns n : ℕ) (tree : CTree) (text : List ℕ) (e : Refusal) → IsNumbered x n text (Err e)
+    → Settles b b [] (EvaluatesTo x turns n tree text) (telling (refused e))
+not_numbered b x turns n tree text e (inl wants) = here b [] _ _ (inr (ap telling wants))
+not_numbered b x turns n tree text e (inr z) = here b [] _ _ (inl (BadNumber z.line z.bad (record { last = refl; is = ap telling z.is })))

@@ -1,5 +1,5 @@
 -- When each answer of the top call comes, from what it answers.
-use Rattle.std.proofs.Common.{◌≡◌, ◌⊎◌, ◌≤◌, ◌+◌, ℕ, zero, suc, List, [], ◌∷◌, length, Option, Some, None, refl, sym, ap, ◌∙◌, subst, inl, inr, arith}
+use Rattle.std.proofs.Common.{◌≡◌, ◌⊎◌, ◌≤◌, ◌+◌, ℕ, zero, suc, List, [], ◌∷◌, ℤ, Ok, length, Option, Some, None, refl, sym, ap, ◌∙◌, subst, inl, inr, arith}
 use Rattle.std.specs.Prelude.{slice_get}
 use Rattle.nk_outside.specs.Held.{Reads}
 use Rattle.nk_outside.specs.Taken.{Took}
@@ -10,13 +10,19 @@ use Rattle.plain_tools.specs.Machine.{Stop, Running, Halted, NoWord, BadWord}
 use Rattle.plain_tools.specs.Machine as machine
 use Rattle.plain_tools.specs.PlainText.{lines}
 use Rattle.nml_suite.specs.Answer.{Moment, Answers}
-use Rattle.nml_suite.specs.Cause.{HasCause, HasBytes, HasDescription, HasOtherDescription, HasMachine, HasImage, IsNotBuilt, Command, Assembled, Text, Machine, Image, IsUsage}
-use Rattle.nml_suite.specs.Coming.{EndsWith, SumsUp, Summed, Opens, Short, Opened, Accepts, Faulty, Accepted, Simplifies, Other, Plain, AssemblesTo, NotPlain, NoMatch, Words, Loads, NoImage, Loaded, RunsTo, Input, Ran, IsImageOf, CheckComesTo, AsmComesTo, RunComesTo, ComesTo, first_input}
+use Rattle.nml_suite.specs.Cause.{HasCause, HasBytes, HasDescription, HasOtherDescription, HasMachine, HasImage, HasTree, HasSource, HasProgram, outcome_of, IsNotBuilt, Command, Assembled, Text, Machine, Image, IsUsage}
+use Rattle.nml_suite.specs.Coming.{EndsWith, SumsUp, Summed, Opens, Short, Opened, Accepts, Faulty, Accepted, Simplifies, Other, Plain, AssemblesTo, NotPlain, NoMatch, Words, Loads, NoImage, Loaded, RunsTo, Input, Ran, IsImageOf, Targets, NoTarget, Targeted, Compiles, FaultyProgram, SoundProgram, EvaluatesTo, BadNumber, Evaluated, CheckComesTo, AsmComesTo, RunComesTo, CevalComesTo, ComesTo, first_input}
 use Rattle.nml_suite.specs.Described.{IsAccepted}
 use Rattle.nml_suite.specs.Files.{HaveCauses, Leaves}
+use Rattle.nml_target.specs.Target.{target}
+use Rattle.input_lines.specs.Input.{numbers}
+use Rattle.nk_outside.specs.declared.stop.Stop as outside
+use Rattle.nk_outside.specs.declared.stop.Stop.TheVariants as ends
+use Rattle.c_tree.specs.declared.program.CTree.{CTree}
+use Rattle.nml_suite.specs.Programs.{IsProgram}
 use Rattle.nml_suite.specs.Form.{Form, Check, Asm, Dis, Run, Cc, Ceval, Demo, named_to_read}
 use Rattle.nml_suite.specs.Reading.{Store, Reading, Got, Absent, Failed, TooLong, Unread, IsShort, HasReading, Asked}
-use Rattle.nml_suite.specs.Reply.{Reply, unread, starved, not_built, stop_status, told_run}
+use Rattle.nml_suite.specs.Reply.{Reply, unread, starved, not_built, stop_status, told_run, ending_status, told_outcome}
 use Rattle.nml_suite.specs.Told.{Told, Whole, Cut, Starved, CutStarved, EndsIn}
 use Rattle.nml_suite.specs.Work.{Work, telling, Filed, Kept}
 use Rattle.nml_suite.specs.Work as works
@@ -81,7 +87,7 @@ simplifies_owe b n form f tree goes xs w a row h (Plain d built g) =
 sums_owe : (b n : Moment) (d : List ℕ) (f : HasBytes b (Some (Check d)) 0) (tree : Desc) (xs : List Asked) (w : Work) → IsAccepted f.bytes tree → SumsUp tree xs w
     → Owes b n (Some (Check d)) w.reply
 sums_owe b n d f tree xs w a (Summed count width s e) =
-    ends_owe b n (Some (Check d)) xs w _ e (λ t. inr (inr (record { check = tt; file = f; tree = tree; is = a; count = count; width = width; summary = s; told = t })))
+    ends_owe b n (Some (Check d)) xs w _ e (λ t. inr (inr (inl (record { check = tt; file = f; tree = tree; is = a; count = count; width = width; summary = s; told = t }))))
 
 check_owes : (b n : Moment) (d : List ℕ) (xs : List Asked) (w : Work) → CallsBehind b n 0 xs w → HaveCauses b.store n.store xs → CheckComesTo d xs w
     → Owes b n (Some (Check d)) w.reply
@@ -99,7 +105,7 @@ text_owes : (b n : Moment) (d s i : List ℕ) (x : HasDescription b (Some (Asm d
 text_owes b n d s i x f xs w saved (NotPlain c e) =
     ends_owe b n (Some (Asm d s i)) xs w _ e (λ t. Text (record { files = record { asm = tt; description = x; text = f }; other = c; told = t }))
 text_owes b n d s i x f xs w saved (NoMatch c line l e) =
-    ends_owe b n (Some (Asm d s i)) xs w _ e (λ t. record { files = record { asm = tt; description = x; text = f }; fit = c; line = line; fails = l; told = t })
+    ends_owe b n (Some (Asm d s i)) xs w _ e (λ t. inl (record { files = record { asm = tt; description = x; text = f }; fit = c; line = line; fails = l; told = t }))
 text_owes b n d s i x f xs w saved (Words c words l last e) = λ t.
     subst (λ (k : Work). HasCause b n (Some (Asm d s i)) k.reply.status) (sym e) (inl (record {
       files = record { asm = tt; description = x; text = f };
@@ -131,15 +137,15 @@ asm_owes b n d s i xs w calls c saved =
 stop_owes : (b n : Moment) (form : Option Form) (l : HasImage b form) (r : machine.RunOutcome) (stop : Stop) → first_input 1 (lines l.input.bytes) ≡ None
     → machine.Runs l.files.description.plain l.picture.words l.files.steps (machine.beginning l.files.description.plain) r → r.stop ≡ stop → Took b.taken n.taken (told_run r).text
     → HasCause b n form (stop_status stop)
-stop_owes b n form l r Running blank runs e t = record { loaded = l; blank = blank; run = r; runs = runs; stop = e; told = t }
+stop_owes b n form l r Running blank runs e t = inl (record { loaded = l; blank = blank; run = r; runs = runs; stop = e; told = t })
 stop_owes b n form l r (Halted zero) blank runs e t = inr (inl (record { loaded = l; blank = blank; run = r; runs = runs; stop = e; told = t }))
-stop_owes b n form l r (Halted (suc code)) blank runs e t = record { loaded = l; blank = blank; run = r; runs = runs; stop = (code, e); told = t }
+stop_owes b n form l r (Halted (suc code)) blank runs e t = inl (record { loaded = l; blank = blank; run = r; runs = runs; stop = (code, e); told = t })
 stop_owes b n form l r (NoWord place) blank runs e t = record { loaded = l; blank = blank; run = r; runs = runs; stop = (place, e); told = t }
 stop_owes b n form l r (BadWord place) blank runs e t = record { loaded = l; blank = blank; run = r; runs = runs; stop = (place, e); told = t }
 
 input_owes : (b n : Moment) (form : Option Form) (l : HasImage b form) (xs : List Asked) (w : Work)
     → RunsTo l.input.name l.files.steps l.files.description.plain l.picture.words l.input.bytes xs w → Owes b n form w.reply
-input_owes b n form l xs w (Input line is e) = ends_owe b n form xs w _ e (λ t. record { loaded = l; line = line; is = is; told = t })
+input_owes b n form l xs w (Input line is e) = ends_owe b n form xs w _ e (λ t. inl (record { loaded = l; line = line; is = is; told = t }))
 input_owes b n form l xs w (Ran blank r runs e) = ends_owe b n form xs w _ e (λ t. stop_owes b n form l r r.stop blank runs refl t)
 
 -- the image that was found
@@ -170,6 +176,56 @@ run_owes b n d i x steps xs w calls c =
     input_owes b n form (record { files = m; picture = l.0; is = l.1; input = record { name = x; named = refl; bytes = text; read = t } }) last w go))
     (subst (λ (y : HasBytes b form 0). Loads i y.bytes p.plain bits (λ words. Opens x (RunsTo x steps p.plain words)) rest w) (sym is) g)))))
 
+-- ---- `ceval`
+
+-- the bits that were found
+abbrev FoundWidth : (b : Moment) (form : Option Form) → HasTree b form → Type 0
+FoundWidth b form t = (bits : ℕ) × (target t.tree ≡ Ok bits)
+
+targets_owe : (b n : Moment) (form : Option Form) (t : HasTree b form) (goes : ℕ → List Asked → Work → Type 0) (xs : List Asked) (w : Work)
+    → ((s : FoundWidth b form t) → goes s.0 xs w → Owes b n form w.reply) → Targets t.file.name t.tree goes xs w → Owes b n form w.reply
+targets_owe b n form t goes xs w h (NoTarget what e is) = ends_owe b n form xs w _ is (λ u. record { description = t; what = what; lacks = e; told = u })
+targets_owe b n form t goes xs w h (Targeted bits e g) = h (bits, e) g
+
+compiles_owe : (b n : Moment) (form : Option Form) (s : HasSource b form) (goes : CTree → List Asked → Work → Type 0) (xs : List Asked) (w : Work)
+    → ((tree : CTree) → IsProgram s.source.bytes s.bits tree → goes tree xs w → Owes b n form w.reply) → Compiles s.source.name s.source.bytes s.bits goes xs w
+    → Owes b n form w.reply
+compiles_owe b n form s goes xs w h (FaultyProgram fault x e) = ends_owe b n form xs w _ e (λ t. inr (record { files = s; fault = fault; faulty = x; told = t }))
+compiles_owe b n form s goes xs w h (SoundProgram tree is g) = h tree is g
+
+ending_owes : (b n : Moment) (form : Option Form) (p : HasProgram b form) (found : List ℤ) (stop : outside.Stop) → numbers p.files.bits p.input.bytes ≡ Ok found
+    → (outcome_of b form p found).stop ≡ stop → Took b.taken n.taken (told_outcome (outcome_of b form p found)).text → HasCause b n form (ending_status stop)
+ending_owes b n form p found ends.Running is e t = inr (record { files = p; found = found; is = is; stop = e; told = t })
+ending_owes b n form p found ends.Ended is e t = inr (inr (inr (record { files = p; found = found; is = is; stop = inl e; told = t })))
+ending_owes b n form p found (ends.Trap zero) is e t = inr (inr (inr (record { files = p; found = found; is = is; stop = inr e; told = t })))
+ending_owes b n form p found (ends.Trap (suc code)) is e t = inr (record { files = p; found = found; is = is; stop = (code, e); told = t })
+ending_owes b n form p found ends.Wants is e t = record { files = p; found = found; is = is; stop = e; told = t }
+
+evaluates_owe : (b n : Moment) (form : Option Form) (p : HasProgram b form) (xs : List Asked) (w : Work)
+    → EvaluatesTo p.input.name p.files.description.turns p.files.bits p.program p.input.bytes xs w → Owes b n form w.reply
+evaluates_owe b n form p xs w (BadNumber line is e) = ends_owe b n form xs w _ e (λ t. inr (record { files = p; line = line; bad = is; told = t }))
+evaluates_owe b n form p xs w (Evaluated found is e) = ends_owe b n form xs w _ e (λ t. ending_owes b n form p found (outcome_of b form p found).stop is refl t)
+
+ceval_owes : (b n : Moment) (d s x : List ℕ) (turns : ℕ) (xs : List Asked) (w : Work) → CallsBehind b n 0 xs w → HaveCauses b.store n.store xs
+    → CevalComesTo d s x turns xs w → Owes b n (Some (Ceval d s x turns)) w.reply
+ceval_owes b n d s x turns xs w calls c =
+    let form = Some (Ceval d s x turns) in
+    opens_owe b n form 0 d _ xs w refl calls c
+    (λ bytes more r calls_more c_more.
+    let f : HasBytes b form 0 = record { name = d; named = refl; bytes = bytes; read = r } in
+    accepts_owe b n form f _ more w
+    (λ tree a.
+    let t : HasTree b form = record { turns = turns; ceval = refl; file = f; tree = tree; is = a } in
+    targets_owe b n form t _ more w
+    (λ width. opens_owe b n form 1 s _ more w refl calls_more c_more
+    (λ text rest q calls_rest c_rest.
+    let source : HasSource b form =
+        record { description = t; bits = width.0; target_is = width.1; source = record { name = s; named = refl; bytes = text; read = q } } in
+    compiles_owe b n form source _ rest w
+    (λ program is. opens_owe b n form 2 x _ rest w refl calls_rest c_rest
+    (λ entry last k calls_last c_last.
+    evaluates_owe b n form (record { files = source; program = program; is = is; input = record { name = x; named = refl; bytes = entry; read = k } }) last w))))))
+
 -- ---- any words
 
 work_owes : (b n : Moment) (form : Option Form) (xs : List Asked) (w : Work) → CallsBehind b n 0 xs w → HaveCauses b.store n.store xs → Leaves b.store n.store w.file
@@ -180,7 +236,7 @@ work_owes b n (Some (Run d i x k)) xs w calls c saved g = run_owes b n d i x k x
 work_owes b n (Some (Check d)) xs w calls c saved g = check_owes b n d xs w calls c g
 work_owes b n (Some (Dis d i)) xs w calls c saved e = ends_owe b n (Some (Dis d i)) xs w not_built e (λ t. Command tt t)
 work_owes b n (Some (Cc d s i)) xs w calls c saved e = ends_owe b n (Some (Cc d s i)) xs w not_built e (λ t. Command tt t)
-work_owes b n (Some (Ceval d s x k)) xs w calls c saved e = ends_owe b n (Some (Ceval d s x k)) xs w not_built e (λ t. Command tt t)
+work_owes b n (Some (Ceval d s x k)) xs w calls c saved g = ceval_owes b n d s x k xs w calls c g
 work_owes b n (Some (Demo k)) xs w calls c saved e = ends_owe b n (Some (Demo k)) xs w not_built e (λ t. Command tt t)
 
 -- the whole text of what is told was taken

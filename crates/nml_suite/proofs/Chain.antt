@@ -2,7 +2,8 @@
 use Rattle.std.proofs.Common.{◌≡◌, ℕ, List, [], ◌∷◌, Option, Some, None, sym, ap, subst}
 use Rattle.plain_tree.specs.Description.{Description}
 use Rattle.nml_tree.specs.declared.tree.Desc.{Desc}
-use Rattle.nml_suite.specs.Coming.{EndsWith, SumsUp, Summed, Opens, Short, Opened, Accepts, Faulty, Accepted, Simplifies, Other, Plain, AssemblesTo, NotPlain, NoMatch, Words, Loads, NoImage, Loaded, RunsTo, Input, Ran, ComesTo}
+use Rattle.nml_suite.specs.Coming.{EndsWith, SumsUp, Summed, Opens, Short, Opened, Accepts, Faulty, Accepted, Simplifies, Other, Plain, AssemblesTo, NotPlain, NoMatch, Words, Loads, NoImage, Loaded, RunsTo, Input, Ran, Targets, NoTarget, Targeted, Compiles, FaultyProgram, SoundProgram, EvaluatesTo, BadNumber, Evaluated, ComesTo}
+use Rattle.c_tree.specs.declared.program.CTree.{CTree}
 use Rattle.nml_suite.specs.Form.{Form, Check, Asm, Dis, Run, Cc, Ceval, Demo}
 use Rattle.nml_suite.specs.Reading.{Reading, Unread, IsShort, Asked}
 use Rattle.nml_suite.specs.Reply.{Reply}
@@ -66,6 +67,20 @@ runs_sound : (x : List ℕ) (steps : ℕ) (d : Description) (words text : List �
 runs_sound x steps d words text xs w (Input line is e) = ends_sound _ xs w e
 runs_sound x steps d words text xs w (Ran blank r runs e) = ends_sound _ xs w e
 
+targets_sound : (name : List ℕ) (tree : Desc) (goes : ℕ → List Asked → Work → Type 0) (xs : List Asked) (w : Work) → ((n : ℕ) → goes n xs w → IsSound xs w)
+    → Targets name tree goes xs w → IsSound xs w
+targets_sound name tree goes xs w h (NoTarget what e is) = ends_sound _ xs w is
+targets_sound name tree goes xs w h (Targeted n e g) = h n g
+
+compiles_sound : (name bytes : List ℕ) (n : ℕ) (goes : CTree → List Asked → Work → Type 0) (xs : List Asked) (w : Work) → ((tree : CTree) → goes tree xs w → IsSound xs w)
+    → Compiles name bytes n goes xs w → IsSound xs w
+compiles_sound name bytes n goes xs w h (FaultyProgram fault x e) = ends_sound _ xs w e
+compiles_sound name bytes n goes xs w h (SoundProgram tree is g) = h tree g
+
+evaluates_sound : (x : List ℕ) (turns n : ℕ) (tree : CTree) (text : List ℕ) (xs : List Asked) (w : Work) → EvaluatesTo x turns n tree text xs w → IsSound xs w
+evaluates_sound x turns n tree text xs w (BadNumber line is e) = ends_sound _ xs w e
+evaluates_sound x turns n tree text xs w (Evaluated found is e) = ends_sound _ xs w e
+
 pub sound : (form : Option Form) (xs : List Asked) (w : Work) → ComesTo form xs w → IsSound xs w
 sound None xs w e = ends_sound _ xs w e
 sound (Some (Asm d s i)) xs w g =
@@ -85,5 +100,12 @@ sound (Some (Run d i x n)) xs w g =
 sound (Some (Check d)) xs w g = opens_sound d _ xs w (λ bytes more. accepts_sound d bytes _ more w (λ tree. sums_sound tree more w)) g
 sound (Some (Dis d i)) xs w e = ends_sound _ xs w e
 sound (Some (Cc d s i)) xs w e = ends_sound _ xs w e
-sound (Some (Ceval d s x n)) xs w e = ends_sound _ xs w e
+sound (Some (Ceval d s x turns)) xs w g =
+    opens_sound d _ xs w
+    (λ bytes more. accepts_sound d bytes _ more w
+    (λ tree. targets_sound d tree _ more w
+    (λ n. opens_sound s _ more w
+    (λ text rest. compiles_sound s text n _ rest w
+    (λ program. opens_sound x _ rest w (λ entry last. evaluates_sound x turns n program entry last w))))))
+    g
 sound (Some (Demo k)) xs w e = ends_sound _ xs w e

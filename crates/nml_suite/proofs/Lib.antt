@@ -6,12 +6,14 @@ pub mod Chain
 pub mod Completeness
 pub mod Composing
 pub mod Describing
+pub mod Evaluating
 pub mod Filing
 pub mod Images
 pub mod Lines
 pub mod OneFault
 pub mod OneWork
 pub mod Outputs
+pub mod Programs
 pub mod ReadRows
 pub mod SomeWork
 pub mod Telling

@@ -1,7 +1,7 @@
 -- The lines of words, one more at a time.
 use Rattle.std.proofs.Common.{◌≡◌, ℕ, ◌+◌, ◌<◌, List, [], ◌∷◌, ◌++◌, Option, length, get_or, take, drop, refl, sym, ap, ◌∙◌, subst, append_assoc, append-nil, drop-cons, suc}
 use Rattle.std.proofs.lemmas.List.{take_more, take-append-drop}
-use Rattle.std.specs.Prelude.{Result, Ok, Err, OnOk, OnErr}
+use Rattle.std.specs.Prelude.{Result, Ok, Err, OnErr}
 use Rattle.nk_outside.specs.Taken.{Took, TookFront}
 use Rattle.nk_outside.proofs.Pieces.{front_after, front_of_first}
 use Rattle.nml_suite.specs.Reply.{word_line, word_lines}
@@ -34,11 +34,3 @@ cut_in_line a b c w xs i h t f =
 pub on_err : {A E : Type 0} (P Q : Type 0) (r : Result A E) → (P → Q) → OnErr r P → OnErr r Q
 on_err P Q (Ok x) f p = tt
 on_err P Q (Err e) f p = f p
-
-pub on_ok : {A E : Type 0} (P Q : Type 0) (r : Result A E) → (P → Q) → OnOk r P → OnOk r Q
-on_ok P Q (Ok x) f p = f p
-on_ok P Q (Err e) f p = tt
-
--- a text, one more piece, and another behind it
-pub behind : (l p s b x y : List ℕ) → x ≡ l ++ p → y ≡ x ++ (s ++ b) → y ≡ l ++ ((p ++ s) ++ b)
-behind l p s b x y e f = f ∙ ap (λ w. w ++ (s ++ b)) e ∙ append_assoc l p (s ++ b) ∙ ap (λ w. l ++ w) (sym (append_assoc p s b))

@@ -1,8 +1,9 @@
 -- However the reads are answered, words come to one thing alone.
-use Rattle.std.proofs.Common.{◌≡◌, ℕ, suc, List, [], ◌∷◌, Option, Some, None, refl, sym, ap, ◌∙◌, subst, arith}
+use Rattle.std.proofs.Common.{◌≡◌, ℕ, suc, List, [], ◌∷◌, ℤ, Option, Some, None, refl, sym, ap, ◌∙◌, subst, arith}
 use Rattle.plain_tree.specs.Description.{Description}
 use Rattle.plain_tree.specs.IsPlain.{IsPlain}
 use Rattle.nml_tree.specs.declared.tree.Desc.{Desc}
+use Rattle.nml_tree.specs.Table.{table}
 use Rattle.nml_refusals.proofs.Summaries.{one_summary}
 use Rattle.image_file.specs.File.{Picture, Init, HasFile}
 use Rattle.image_file.proofs.OneFile.{one}
@@ -11,14 +12,18 @@ use Rattle.plain_tools.proofs.AssembledWords.{pc_numbers}
 use Rattle.plain_tools.proofs.Determined.{HasOneWord, one_assembly, none_fails, one_failure, both}
 use Rattle.plain_tools.proofs.Instructions.{same_word}
 use Rattle.plain_tools.proofs.OneRun.{one_run}
-use Rattle.nml_suite.specs.Coming.{EndsWith, SumsUp, Summed, Opens, Short, Opened, Accepts, Faulty, Accepted, Simplifies, Other, Plain, AssemblesTo, NotPlain, NoMatch, Words, Loads, NoImage, Loaded, RunsTo, Input, Ran, IsImageOf, ComesTo, picture, made}
+use Rattle.nml_suite.specs.Coming.{EndsWith, SumsUp, Summed, Opens, Short, Opened, Accepts, Faulty, Accepted, Simplifies, Other, Plain, AssemblesTo, NotPlain, NoMatch, Words, Loads, NoImage, Loaded, RunsTo, Input, Ran, IsImageOf, Targets, NoTarget, Targeted, Compiles, FaultyProgram, SoundProgram, EvaluatesTo, BadNumber, Evaluated, ComesTo, picture, made}
 use Rattle.nml_suite.specs.Complete.{Answering, AreAnswered, ComesOut}
 use Rattle.nml_suite.specs.Described.{IsAccepted}
 use Rattle.nml_suite.specs.Form.{Form, Check, Asm, Dis, Run, Cc, Ceval, Demo}
 use Rattle.nml_suite.specs.Reading.{Got, IsShort, Asked}
-use Rattle.nml_suite.specs.Reply.{Reply, unread, accepted, description_fault, no_match, bad_input, told_run}
+use Rattle.nml_suite.specs.Reply.{Reply, unread, accepted, description_fault, no_match, bad_input, told_run, no_target, program_fault, told_outcome}
 use Rattle.nml_suite.specs.Work.{Work, telling}
 use Rattle.nml_suite.proofs.Images.{has_file}
+use Rattle.c_tree.specs.declared.program.CTree.{CTree}
+use Rattle.c_tree.specs.Meaning.{outcome}
+use Rattle.c_tree.specs.Resolve.{resolved}
+use Rattle.nml_suite.proofs.Programs.{one_program_fault, no_program_fault, one_program}
 use Rattle.nml_suite.proofs.OneFault.{one_fault, no_fault, one_accepted, one_built}
 
 same_bytes : {a b : List ℕ} → Got a ≡ Got b → a ≡ b
@@ -71,7 +76,7 @@ simplifies_one name tree goes went xs ys w v h (Plain d b g) (Plain c k f) = h c
 
 sums_one : (tree : Desc) (xs ys : List Asked) (w v : Work) → SumsUp tree xs w → SumsUp tree ys v → w ≡ v
 sums_one tree xs ys w v (Summed c b s e) (Summed a z t f) =
-    let same = one_summary tree c b a z s t in both_end _ _ xs ys w v (λ j. accepted (same.0 j) (same.1 j)) e f
+    let same = one_summary (table tree) c b a z s t in both_end _ _ xs ys w v (λ j. accepted (same.0 j) (same.1 j)) e f
 
 -- ---- `asm`
 
@@ -118,6 +123,30 @@ runs_one x steps d words text xs ys w v p (Input line a e) (Ran b r runs f) = ab
 runs_one x steps d words text xs ys w v p (Ran a r runs e) (Input line b f) = absurd (cc (a, b))
 runs_one x steps d words text xs ys w v p (Ran a r runs e) (Ran b q goes f) = both_end _ _ xs ys w v (ap told_run (one_run d words steps _ r q p runs goes)) e f
 
+-- ---- `ceval`
+
+targets_one : (name : List ℕ) (tree : Desc) (goes went : ℕ → List Asked → Work → Type 0) (xs ys : List Asked) (w v : Work) → ((n : ℕ) → goes n xs w → went n ys v → w ≡ v)
+    → Targets name tree goes xs w → Targets name tree went ys v → w ≡ v
+targets_one name tree goes went xs ys w v h (NoTarget a e x) (NoTarget b f y) = let same : a ≡ b = cc (e, f) in both_end _ _ xs ys w v (ap (no_target name) same) x y
+targets_one name tree goes went xs ys w v h (NoTarget a e x) (Targeted n f g) = absurd (cc (e, f))
+targets_one name tree goes went xs ys w v h (Targeted n f g) (NoTarget a e x) = absurd (cc (e, f))
+targets_one name tree goes went xs ys w v h (Targeted n e g) (Targeted m f d) = let same : n ≡ m = cc (e, f) in h m (subst (λ z. goes z xs w) same g) d
+
+compiles_one : (name bytes : List ℕ) (n : ℕ) (goes went : CTree → List Asked → Work → Type 0) (xs ys : List Asked) (w v : Work)
+    → ((tree : CTree) → goes tree xs w → went tree ys v → w ≡ v) → Compiles name bytes n goes xs w → Compiles name bytes n went ys v → w ≡ v
+compiles_one name bytes n goes went xs ys w v h (FaultyProgram f x e) (FaultyProgram g y i) = both_end _ _ xs ys w v (ap (program_fault name) (one_program_fault bytes n f g x y)) e i
+compiles_one name bytes n goes went xs ys w v h (FaultyProgram f x e) (SoundProgram t a g) = absurd (no_program_fault bytes n t f a x)
+compiles_one name bytes n goes went xs ys w v h (SoundProgram t a g) (FaultyProgram f x e) = absurd (no_program_fault bytes n t f a x)
+compiles_one name bytes n goes went xs ys w v h (SoundProgram t a g) (SoundProgram u b d) = h u (subst (λ z. goes z xs w) (one_program bytes n t u a b) g) d
+
+evaluates_one : (x : List ℕ) (turns n : ℕ) (tree : CTree) (text : List ℕ) (xs ys : List Asked) (w v : Work)
+    → EvaluatesTo x turns n tree text xs w → EvaluatesTo x turns n tree text ys v → w ≡ v
+evaluates_one x turns n tree text xs ys w v (BadNumber a e i) (BadNumber b f j) = let same : a ≡ b = cc (e, f) in both_end _ _ xs ys w v (ap (bad_input x) same) i j
+evaluates_one x turns n tree text xs ys w v (BadNumber a e i) (Evaluated b f j) = absurd (cc (e, f))
+evaluates_one x turns n tree text xs ys w v (Evaluated a e i) (BadNumber b f j) = absurd (cc (e, f))
+evaluates_one x turns n tree text xs ys w v (Evaluated a e i) (Evaluated b f j) =
+    let same : a ≡ b = cc (e, f) in both_end _ _ xs ys w v (ap (λ zs. told_outcome (outcome (resolved tree) n zs turns)) same) i j
+
 -- ---- any words
 
 comes_one : (answers : Answering) (form : Option Form) (xs ys : List Asked) (w v : Work) → AreAnswered answers 0 xs → AreAnswered answers 0 ys → ComesTo form xs w → ComesTo form ys v → w ≡ v
@@ -142,7 +171,15 @@ comes_one answers (Some (Check d)) xs ys w v a b x y =
     opens_one answers 0 d _ _ xs ys w v a b (λ bytes more other c e. accepts_one d bytes _ _ more other w v (λ tree k. sums_one tree more other w v)) x y
 comes_one answers (Some (Dis d i)) xs ys w v a b x y = both_end _ _ xs ys w v refl x y
 comes_one answers (Some (Cc d s i)) xs ys w v a b x y = both_end _ _ xs ys w v refl x y
-comes_one answers (Some (Ceval d s x n)) xs ys w v a b y z = both_end _ _ xs ys w v refl y z
+comes_one answers (Some (Ceval d s x turns)) xs ys w v a b f g =
+    opens_one answers 0 d _ _ xs ys w v a b
+    (λ bytes more other c e. accepts_one d bytes _ _ more other w v
+    (λ tree k. targets_one d tree _ _ more other w v
+    (λ n. opens_one answers 1 s _ _ more other w v c e
+    (λ text rest last h j. compiles_one s text n _ _ rest last w v
+    (λ program. opens_one answers 2 x _ _ rest last w v h j
+    (λ entry end stop l m. evaluates_one x turns n program entry end stop w v))))))
+    f g
 comes_one answers (Some (Demo k)) xs ys w v a b x y = both_end _ _ xs ys w v refl x y
 
 pub one_work : (answers : Answering) (form : Option Form) (w v : Work) → ComesOut answers form w → ComesOut answers form v → w ≡ v

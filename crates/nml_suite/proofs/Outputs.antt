@@ -210,12 +210,12 @@ put_whole s bound a b c stop status h t e = record {
 }
 
 -- what the end after a fault says of success doesn't matter
-ends_alike : (fault : WriteFault) (x y : Status) (b c : Option (List ℕ)) (g h : ℕ) (s : Status) → Ends (Err fault) x b c g h s → Ends (Err fault) y b c g h s
+pub ends_alike : (fault : WriteFault) (x y : Status) (b c : Option (List ℕ)) (g h : ℕ) (s : Status) → Ends (Err fault) x b c g h s → Ends (Err fault) y b c g h s
 ends_alike faults.Failed x y b c g h s e = e
 ends_alike faults.Memory x y b c g h s e = e
 
 -- what a fault does to the count doesn't hang on what it stands for
-counts_alike : (A B : Type 0) (fault : WriteFault) (f g : ℕ) → CountsPuts {A = A} f g (Err fault) → CountsPuts {A = B} f g (Err fault)
+pub counts_alike : (A B : Type 0) (fault : WriteFault) (f g : ℕ) → CountsPuts {A = A} f g (Err fault) → CountsPuts {A = B} f g (Err fault)
 counts_alike A B faults.Failed f g c = c
 counts_alike A B faults.Memory f g c = c
 

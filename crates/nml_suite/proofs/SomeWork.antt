@@ -1,5 +1,5 @@
 -- However the reads are answered, it can't be that words come to nothing.
-use Rattle.std.proofs.Common.{◌≡◌, ◌⊎◌, ℕ, suc, List, [], ◌∷◌, Option, Some, None, refl, sym, inl, inr}
+use Rattle.std.proofs.Common.{◌≡◌, ◌⊎◌, ℕ, suc, List, [], ◌∷◌, ℤ, Result, Ok, Err, Option, Some, None, refl, sym, inl, inr}
 use Rattle.std.specs.Prelude.{Bool, true, false}
 use Rattle.nml_tree.specs.declared.fault.DescFault.TheVariants as faults
 use Rattle.nml_tree.specs.declared.tree.Desc.{Desc}
@@ -13,12 +13,25 @@ use Rattle.plain_tools.specs.Machine.{RunOutcome, Runs, beginning}
 use Rattle.plain_tools.specs.PlainText.{lines}
 use Rattle.plain_tools.proofs.HasOutcome.{has_outcome}
 use Rattle.plain_tools.proofs.Determined.{not_neither}
-use Rattle.nml_suite.specs.Coming.{EndsWith, SumsUp, Summed, Opens, Short, Opened, Accepts, Faulty, Accepted, Simplifies, Other, Plain, AssemblesTo, NotPlain, NoMatch, Words, Loads, NoImage, Loaded, RunsTo, Input, Ran, ComesTo, first_input, made}
+use Rattle.nml_suite.specs.Coming.{EndsWith, SumsUp, Summed, Opens, Short, Opened, Accepts, Faulty, Accepted, Simplifies, Other, Plain, AssemblesTo, NotPlain, NoMatch, Words, Loads, NoImage, Loaded, RunsTo, Input, Ran, Targets, NoTarget, Targeted, Compiles, FaultyProgram, SoundProgram, EvaluatesTo, BadNumber, Evaluated, ComesTo, first_input, made}
 use Rattle.nml_suite.specs.Complete.{Answering, AllAnswer, AreAnswered, ComesOut}
 use Rattle.nml_refusals.proofs.TreeFaults.{checked_if_none}
 use Rattle.nml_refusals.proofs.Told.{told, some_summary}
 use Rattle.nml_tree.specs.Refused.{IsChecked}
 use Rattle.nml_suite.specs.Described.{Spells, NoTokens, NoTree, Floating, Refused, IsAccepted, IsBuilt}
+use Rattle.nml_target.specs.Target.{target}
+use Rattle.nml_target.specs.declared.width.Lacking.{Lacking}
+use Rattle.input_lines.specs.Input.{numbers}
+use Rattle.c_tree.specs.declared.program.CTree.{CTree}
+use Rattle.c_tree.specs.declared.fault.CFault.TheVariants as c_faults
+use Rattle.c_tree.specs.declared.fault.CFault.{CFault}
+use Rattle.c_tree.specs.Items.{items}
+use Rattle.c_lex.specs.Lexed as c_tokens
+use Rattle.c_grammar.specs.Trees as c_trees
+use Rattle.c_grammar.proofs.SomeReading.{some_bytes}
+use Rattle.c_check.proofs.SomeFault.{accepted_if_none}
+use Rattle.nml_suite.specs.Programs.{HasProgramFault, NoProgramTokens, LeftOut, NoProgram, RefusedProgram, IsProgram}
+use Rattle.nml_suite.proofs.Programs.{memory_only}
 use Rattle.nml_suite.specs.Form.{Form, Check, Asm, Dis, Run, Cc, Ceval, Demo}
 use Rattle.nml_suite.specs.Reading.{Reading, Got, Absent, Failed, TooLong, Unread, Asked}
 use Rattle.nml_suite.specs.Reply.{Reply, told_run}
@@ -93,6 +106,33 @@ runs_by : (answers : Answering) (k : ℕ) (x : List ℕ) (steps : ℕ) (d : Desc
 runs_by answers k x steps d words text (Some line) e r none = none [] _ tt (Input line e (record { last = refl; is = refl }))
 runs_by answers k x steps d words text None e r none = none [] (telling (told_run r.0)) tt (Ran e r.0 r.1 (record { last = refl; is = refl }))
 
+-- ---- `ceval`
+
+targets_by : (answers : Answering) (k : ℕ) (name : List ℕ) (tree : Desc) (goes : ℕ → List Asked → Work → Type 0) (r : Result ℕ Lacking) → target tree ≡ r
+    → ((n : ℕ) → Comes answers k (goes n)) → Comes answers k (Targets name tree goes)
+targets_by answers k name tree goes (Err what) e h none = none [] _ tt (NoTarget what e (record { last = refl; is = refl }))
+targets_by answers k name tree goes (Ok n) e h none = h n (λ asked work a g. none asked work a (Targeted n e g))
+
+-- a program that isn't refused is accepted
+sound_if_none : (bytes : List ℕ) (n : ℕ) (tree : CTree) → c_trees.IsTree bytes tree → ((f : CFault) → HasProgramFault bytes n f → ⊥) → IsProgram bytes n tree
+sound_if_none bytes n tree is none =
+    record { spelled = is; accepted = accepted_if_none (items tree) n (λ f x. memory_only f (λ some. none f (RefusedProgram tree is x some))) }
+
+compiles_by : (answers : Answering) (k : ℕ) (name bytes : List ℕ) (n : ℕ) (goes : CTree → List Asked → Work → Type 0) → ((tree : CTree) → Comes answers k (goes tree))
+    → ((c : CTree) × c_trees.IsTree bytes c) ⊎ (((at : ℕ) × c_trees.HasNoTree bytes at) ⊎ (((at : ℕ) × c_trees.IsOutsideAt bytes at) ⊎ ((at : ℕ) × c_tokens.IsStuckAt bytes at)))
+    → Comes answers k (Compiles name bytes n goes)
+compiles_by answers k name bytes n goes h (inl x) none =
+    let sound = sound_if_none bytes n x.0 x.1 (λ f faulty. none [] _ tt (FaultyProgram f faulty (record { last = refl; is = refl }))) in
+    h x.0 (λ asked work a g. none asked work a (SoundProgram x.0 sound g))
+compiles_by answers k name bytes n goes h (inr (inl x)) none = none [] _ tt (FaultyProgram (c_faults.Syntax x.0) (NoProgram x.0 refl x.1) (record { last = refl; is = refl }))
+compiles_by answers k name bytes n goes h (inr (inr (inl x))) none = none [] _ tt (FaultyProgram (c_faults.Outside x.0) (LeftOut x.0 refl x.1) (record { last = refl; is = refl }))
+compiles_by answers k name bytes n goes h (inr (inr (inr x))) none = none [] _ tt (FaultyProgram (c_faults.Lex x.0) (NoProgramTokens x.0 refl x.1) (record { last = refl; is = refl }))
+
+evaluates_by : (answers : Answering) (k : ℕ) (x : List ℕ) (turns n : ℕ) (tree : CTree) (text : List ℕ) (r : Result (List ℤ) ℕ) → numbers n text ≡ r
+    → Comes answers k (EvaluatesTo x turns n tree text)
+evaluates_by answers k x turns n tree text (Err line) e none = none [] _ tt (BadNumber line e (record { last = refl; is = refl }))
+evaluates_by answers k x turns n tree text (Ok found) e none = none [] _ tt (Evaluated found e (record { last = refl; is = refl }))
+
 -- ---- any words
 
 comes : (answers : Answering) (form : Option Form) → AllAnswer answers → Comes answers 0 (ComesTo form)
@@ -112,7 +152,14 @@ comes answers (Some (Run d i x n)) all =
 comes answers (Some (Check d)) all = opens answers 0 d _ all (λ bytes. accepts answers 1 d bytes _ (λ tree a. sums_up answers 1 tree a.checked))
 comes answers (Some (Dis d i)) all = ends answers 0 _
 comes answers (Some (Cc d s i)) all = ends answers 0 _
-comes answers (Some (Ceval d s x n)) all = ends answers 0 _
+comes answers (Some (Ceval d s x turns)) all =
+    opens answers 0 d _ all
+    (λ bytes. accepts answers 1 d bytes _
+    (λ tree a. targets_by answers 1 d tree _ (target tree) refl
+    (λ n. opens answers 1 s _ all
+    (λ text. compiles_by answers 2 s text n _
+    (λ program. opens answers 2 x _ all (λ entry. evaluates_by answers 3 x turns n program entry (numbers n entry) refl))
+    (some_bytes text)))))
 comes answers (Some (Demo k)) all = ends answers 0 _
 
 pub some_work : (answers : Answering) (form : Option Form) → AllAnswer answers → ((work : Work) → ComesOut answers form work → ⊥) → ⊥

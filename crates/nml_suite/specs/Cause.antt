@@ -1,5 +1,5 @@
 -- When each answer comes, and what was told with it.
-use Rattle.std.specs.Prelude.{◌≡◌, ◌⊎◌, ℕ, suc, ◌+◌, ◌≤◌, List, Option, Some, None, slice_get, IsTrue, IsFalse}
+use Rattle.std.specs.Prelude.{◌≡◌, ◌⊎◌, ℕ, suc, ◌+◌, ◌≤◌, List, ℤ, Result, Ok, Err, Option, Some, None, slice_get, IsTrue, IsFalse}
 use Rattle.nk_outside.specs.Count.{Rose}
 use Rattle.nk_outside.specs.Held.{Reads, Lacks, IsTooLong}
 use Rattle.nk_outside.specs.Taken.{Took}
@@ -13,13 +13,24 @@ use Rattle.plain_tools.specs.Assembly.{Assembles, FailsAt, is_fit}
 use Rattle.plain_tools.specs.PlainText.{lines}
 use Rattle.plain_tools.specs.Machine.{Runs, beginning, Stop, Running, Halted, NoWord, BadWord}
 use Rattle.plain_tools.specs.Machine as machine
+use Rattle.nml_target.specs.Target.{target}
+use Rattle.nml_target.specs.declared.width.Lacking.{Lacking}
+use Rattle.input_lines.specs.Input.{numbers}
+use Rattle.nk_outside.specs.Outcome.{Outcome}
+use Rattle.nk_outside.specs.declared.stop.Stop as outside
+use Rattle.nk_outside.specs.declared.stop.Stop.TheVariants as ends
+use Rattle.c_tree.specs.declared.program.CTree.{CTree}
+use Rattle.c_tree.specs.declared.fault.CFault.{CFault}
+use Rattle.c_tree.specs.Meaning.{outcome}
+use Rattle.c_tree.specs.Resolve.{resolved}
 use Rattle.nml_suite.specs.Answer.{Moment}
 use Rattle.nml_suite.specs.Coming.{IsImageOf, first_input, made}
 use Rattle.nml_suite.specs.Described.{HasFault, IsAccepted, IsBuilt, Describes}
+use Rattle.nml_suite.specs.Programs.{HasProgramFault, IsProgram}
 use Rattle.nml_suite.specs.Files.{Leaves}
 use Rattle.nml_suite.specs.Form.{Form, Check, Asm, Dis, Run, Cc, Ceval, Demo, named_to_read, named_to_write}
 use Rattle.nml_suite.specs.Reading.{Reading, Absent, Failed, TooLong}
-use Rattle.nml_suite.specs.Reply.{usage_line, unread, description_fault, not_built, not_built_file, accepted, no_match, bad_input, told_run}
+use Rattle.nml_suite.specs.Reply.{usage_line, unread, description_fault, not_built, not_built_file, accepted, no_match, bad_input, told_run, no_target, program_fault, told_outcome}
 use Rattle.nml_suite.specs.Told.{EndsIn}
 use Rattle.nml_suite.specs.declared.status.Status.{Status}
 use Rattle.nml_suite.specs.declared.status.Status.TheVariants as statuses
@@ -97,6 +108,11 @@ abbrev pub IsCheck : Option Form → Type 0
 IsCheck (Some (Check d)) = Unit {0}
 IsCheck _ = ⊥
 
+-- those of `ceval`, for this number of turns
+abbrev pub IsCeval : ℕ → Option Form → Type 0
+IsCeval turns (Some (Ceval d c x n)) = n ≡ turns
+IsCeval turns _ = ⊥
+
 -- those of a command that isn't built
 abbrev pub IsOther : Option Form → Type 0
 IsOther None = ⊥
@@ -105,7 +121,7 @@ IsOther (Some (Asm d s i)) = ⊥
 IsOther (Some (Dis d i)) = Unit {0}
 IsOther (Some (Run d i x n)) = ⊥
 IsOther (Some (Cc d c i)) = Unit {0}
-IsOther (Some (Ceval d c x n)) = Unit {0}
+IsOther (Some (Ceval d c x n)) = ⊥
 IsOther (Some (Demo k)) = Unit {0}
 
 -- ---- `check`
@@ -201,6 +217,71 @@ IsBadWordStop s = (place : ℕ) × (s ≡ BadWord place)
 abbrev pub IsOtherHalt : Stop → Type 0
 IsOtherHalt s = (code : ℕ) × (s ≡ Halted (suc code))
 
+-- ---- `ceval`
+
+-- the description of `ceval` was read and is accepted
+pub record HasTree (before : Moment) (form : Option Form) : Type 0 where
+  pub turns : ℕ
+  pub ceval : IsCeval turns form
+  pub file : HasBytes before form 0
+  pub tree : Desc
+  pub is : IsAccepted file.bytes tree
+
+-- it lacks what is told
+pub record HasNoTarget (before now : Moment) (form : Option Form) : Type 0 where
+  pub description : HasTree before form
+  pub what : Lacking
+  pub lacks : target description.tree ≡ Err what
+  pub told : Took before.taken now.taken (no_target description.file.name what).text
+
+-- its numbers have so many bits, and the program was read
+pub record HasSource (before : Moment) (form : Option Form) : Type 0 where
+  pub description : HasTree before form
+  pub bits : ℕ
+  pub target_is : target description.tree ≡ Ok bits
+  pub source : HasBytes before form 1
+
+-- the program has the fault that is told
+pub record HasFaultyProgram (before now : Moment) (form : Option Form) : Type 0 where
+  pub files : HasSource before form
+  pub fault : CFault
+  pub faulty : HasProgramFault files.source.bytes files.bits fault
+  pub told : Took before.taken now.taken (program_fault files.source.name fault).text
+
+-- the program is accepted, and the input was read
+pub record HasProgram (before : Moment) (form : Option Form) : Type 0 where
+  pub files : HasSource before form
+  pub program : CTree
+  pub is : IsProgram files.source.bytes files.bits program
+  pub input : HasBytes before form 2
+
+-- what is told names the first line of the input that isn't blank and isn't a number that is wanted
+pub record HasBadNumber (before now : Moment) (form : Option Form) : Type 0 where
+  pub files : HasProgram before form
+  pub line : ℕ
+  pub bad : numbers files.files.bits files.input.bytes ≡ Err line
+  pub told : Took before.taken now.taken (bad_input files.input.name line).text
+
+-- what the program comes to on these numbers
+abbrev pub outcome_of : (before : Moment) (form : Option Form) → HasProgram before form → List ℤ → Outcome
+outcome_of before form files found = outcome (resolved files.program) files.files.bits found files.files.description.turns
+
+-- The input is numbers; the run of the program on them, for at most so many turns, stops so and is told.
+pub record HasOutcome (before now : Moment) (form : Option Form) (stops : outside.Stop → Type 0) : Type 0 where
+  pub files : HasProgram before form
+  pub found : List ℤ
+  pub is : numbers files.files.bits files.input.bytes ≡ Ok found
+  pub stop : stops (outcome_of before form files found).stop
+  pub told : Took before.taken now.taken (told_outcome (outcome_of before form files found)).text
+
+-- a run that came to its end, or met the trap 0
+abbrev pub IsEnded : outside.Stop → Type 0
+IsEnded s = (s ≡ ends.Ended) ⊎ (s ≡ ends.Trap 0)
+
+-- a run that met another trap
+abbrev pub IsOtherTrap : outside.Stop → Type 0
+IsOtherTrap s = (code : ℕ) × (s ≡ ends.Trap (suc code))
+
 -- ---- each status
 
 -- the command isn't built, or a file isn't of the form that is
@@ -218,19 +299,20 @@ HasCause before now form statuses.Read = HasAbsentFile before now form ⊎ HasFa
 HasCause before now form statuses.TooLong = HasLongFile before now form
 HasCause before now form statuses.NotBuilt = IsNotBuilt before now form
 HasCause before now form statuses.Description = HasFaultyDescription before now form
-HasCause before now form statuses.Source = HasBadLine before now form
-HasCause before now form statuses.Input = HasBadInput before now form
-HasCause before now form statuses.Done = HasWords before now form ⊎ (HasRun before now form (λ s. s ≡ Halted 0) ⊎ HasSummary before now form)
-HasCause before now form statuses.Stopped = HasRun before now form IsOtherHalt
-HasCause before now form statuses.Budget = HasRun before now form (λ s. s ≡ Running)
+HasCause before now form statuses.Source = HasBadLine before now form ⊎ HasFaultyProgram before now form
+HasCause before now form statuses.Input = HasBadInput before now form ⊎ HasBadNumber before now form
+HasCause before now form statuses.Done =
+    HasWords before now form ⊎ (HasRun before now form (λ s. s ≡ Halted 0) ⊎ (HasSummary before now form ⊎ HasOutcome before now form IsEnded))
+HasCause before now form statuses.Stopped = HasRun before now form IsOtherHalt ⊎ HasOutcome before now form IsOtherTrap
+HasCause before now form statuses.Budget = HasRun before now form (λ s. s ≡ Running) ⊎ HasOutcome before now form (λ s. s ≡ ends.Running)
 HasCause before now form statuses.NoWord = HasRun before now form IsNoWordStop
 HasCause before now form statuses.BadWord = HasRun before now form IsBadWordStop
 HasCause before now form statuses.Write = Rose before.faults now.faults ⊎ Rose before.store.counts.write_faults now.store.counts.write_faults
 HasCause before now form statuses.Memory = Unit {0}
 HasCause before now form statuses.Image = ⊥
-HasCause before now form statuses.NotClosed = ⊥
+HasCause before now form statuses.NotClosed = HasNoTarget before now form
 HasCause before now form statuses.Words = ⊥
-HasCause before now form statuses.Wants = ⊥
+HasCause before now form statuses.Wants = HasOutcome before now form (λ s. s ≡ ends.Wants)
 
 -- words of no form are answered so, but for a failed put and want of memory
 abbrev pub IsUsage : Option Form → Status → Type 0

@@ -1,6 +1,6 @@
 -- What a call comes to, by the words and what each read answered: the files in the order of the words, each with its own refusals.
 -- Each step takes what was asked for, in order, and goes on with the rest of it; at the end nothing more is asked for.
-use Rattle.std.specs.Prelude.{◌≡◌, ℕ, ◌+◌, ◌^◌, List, [], ◌∷◌, Option, Some, None, IsTrue, IsFalse, if◌then◌else◌}
+use Rattle.std.specs.Prelude.{◌≡◌, ℕ, ◌+◌, ◌^◌, List, [], ◌∷◌, ℤ, Result, Ok, Err, Option, Some, None, IsTrue, IsFalse, if◌then◌else◌}
 use Rattle.std.specs.List.{list_all}
 use Rattle.sha2.specs.Sha256.{sha256}
 use Rattle.nk_base.specs.Byte.{is_blank}
@@ -16,10 +16,18 @@ use Rattle.plain_tools.specs.Assembly.{Assembles, FailsAt, is_fit}
 use Rattle.plain_tools.specs.PlainText.{lines}
 use Rattle.plain_tools.specs.Machine.{Runs, beginning}
 use Rattle.plain_tools.specs.Machine as machine
+use Rattle.nml_target.specs.Target.{target}
+use Rattle.nml_target.specs.declared.width.Lacking.{Lacking}
+use Rattle.input_lines.specs.Input.{numbers}
+use Rattle.c_tree.specs.declared.program.CTree.{CTree}
+use Rattle.c_tree.specs.declared.fault.CFault.{CFault}
+use Rattle.c_tree.specs.Meaning.{outcome}
+use Rattle.c_tree.specs.Resolve.{resolved}
 use Rattle.nml_suite.specs.Described.{HasFault, IsAccepted, IsBuilt}
+use Rattle.nml_suite.specs.Programs.{HasProgramFault, IsProgram}
 use Rattle.nml_suite.specs.Form.{Form, Check, Asm, Dis, Run, Cc, Ceval, Demo}
 use Rattle.nml_suite.specs.Reading.{Reading, Got, Asked, IsShort}
-use Rattle.nml_suite.specs.Reply.{Reply, reply, unread, usage_line, description_fault, not_built, not_built_file, accepted, no_match, bad_input, assembled, told_run}
+use Rattle.nml_suite.specs.Reply.{Reply, reply, unread, usage_line, description_fault, not_built, not_built_file, accepted, no_match, bad_input, assembled, told_run, no_target, program_fault, told_outcome}
 use Rattle.nml_suite.specs.Work.{Work, Written, telling}
 use Rattle.nml_suite.specs.declared.status.Status.TheVariants as statuses
 
@@ -118,6 +126,35 @@ RunComesTo description image input steps =
     (λ bits. Loads image bytes d bits
     (λ words. Opens input (RunsTo input steps d words))))))
 
+-- ---- `ceval`
+
+-- A description is looked at as a machine for programs: where it lacks something the call ends with that, else it goes on with the bits of its
+-- numbers.
+pub data Targets (name : List ℕ) (tree : Desc) (goes : ℕ → List Asked → Work → Type 0) (asked : List Asked) (work : Work) : Type 0 where
+  NoTarget : (what : Lacking) → target tree ≡ Err what → EndsWith (no_target name what) asked work → Targets name tree goes asked work
+  Targeted : (n : ℕ) → target tree ≡ Ok n → goes n asked work → Targets name tree goes asked work
+
+-- Bytes are looked at as a program whose numbers have n bits: where they have a fault the call ends with that, else it goes on with the program.
+pub data Compiles (name bytes : List ℕ) (n : ℕ) (goes : CTree → List Asked → Work → Type 0) (asked : List Asked) (work : Work) : Type 0 where
+  FaultyProgram : (fault : CFault) → HasProgramFault bytes n fault → EndsWith (program_fault name fault) asked work → Compiles name bytes n goes asked work
+  SoundProgram : (tree : CTree) → IsProgram bytes n tree → goes tree asked work → Compiles name bytes n goes asked work
+
+-- What `ceval` comes to on a program whose numbers have n bits, and the bytes of an input: its run on the numbers of that, for at most so many turns.
+pub data EvaluatesTo (input : List ℕ) (turns n : ℕ) (tree : CTree) (text : List ℕ) (asked : List Asked) (work : Work) : Type 0 where
+  BadNumber : (line : ℕ) → numbers n text ≡ Err line → EndsWith (bad_input input line) asked work → EvaluatesTo input turns n tree text asked work
+  Evaluated : (found : List ℤ) → numbers n text ≡ Ok found → EndsWith (told_outcome (outcome (resolved tree) n found turns)) asked work
+      → EvaluatesTo input turns n tree text asked work
+
+-- what `ceval` comes to: the description first, then the program, then the input
+abbrev pub CevalComesTo : List ℕ → List ℕ → List ℕ → ℕ → List Asked → Work → Type 0
+CevalComesTo description source input turns =
+    Opens description
+    (λ bytes. Accepts description bytes
+    (λ tree. Targets description tree
+    (λ n. Opens source
+    (λ text. Compiles source text n
+    (λ program. Opens input (EvaluatesTo input turns n program))))))
+
 -- ---- any words
 
 -- What the words come to, by what was asked for and answered. Want of memory has no part in it.
@@ -128,5 +165,5 @@ ComesTo (Some (Run d i x n)) = RunComesTo d i x n
 ComesTo (Some (Check d)) = CheckComesTo d
 ComesTo (Some (Dis d i)) = EndsWith not_built
 ComesTo (Some (Cc d c i)) = EndsWith not_built
-ComesTo (Some (Ceval d c x n)) = EndsWith not_built
+ComesTo (Some (Ceval d c x n)) = CevalComesTo d c x n
 ComesTo (Some (Demo k)) = EndsWith not_built

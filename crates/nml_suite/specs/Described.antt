@@ -1,5 +1,5 @@
 -- What the bytes of a description are: which fault they have, or which tree they are accepted as, and which plain description that is.
-use Rattle.std.specs.Prelude.{◌≡◌, ℕ, List, [], length, IsTrue, Bool, true, false, nat_lt}
+use Rattle.std.specs.Prelude.{◌≡◌, ℕ, List, [], length, IsTrue, Bool, nat_lt}
 use Rattle.plain_tree.specs.Description.{Description}
 use Rattle.nml_tree.specs.Floats.{float_places}
 use Rattle.nml_tree.specs.Refused.{IsChecked}
@@ -23,11 +23,6 @@ pub data HasFault (bytes : List ℕ) (f : DescFault) : Type 0 where
   NoTree : (at : ℕ) → f ≡ faults.Syntax at → HasNoTree bytes at → HasFault bytes f
   Floating : (at : ℕ) → f ≡ faults.Float at → IsFloat bytes at → HasFault bytes f
   Refused : (tree : Desc) → Spells bytes tree → IsTreeFault tree f → HasFault bytes f
-
--- memory was wanted, which is no fault of a description
-abbrev pub is_memory : DescFault → Bool
-is_memory faults.Memory = true
-is_memory _ = false
 
 -- the bytes are accepted as this tree: they spell it, and it has no fault
 pub record IsAccepted (bytes : List ℕ) (tree : Desc) : Type 0 where

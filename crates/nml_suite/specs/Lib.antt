@@ -1,10 +1,10 @@
 pub mod Form
 pub mod Status
 pub mod Reading
-pub mod FaultText
 pub mod Reply
 pub mod Work
 pub mod Described
+pub mod Programs
 pub mod Coming
 pub mod Told
 pub mod Answer
@@ -17,4 +17,5 @@ pub mod Sample
 pub mod Seen
 pub mod Ended
 pub mod Running
+pub mod Evaluating
 pub mod Refusing

@@ -1,5 +1,5 @@
 -- For private contracts: what a refusal tells, what a step of a command refuses, and what the reading of its files comes to.
-use Rattle.std.specs.Prelude.{◌≡◌, ◌⊎◌, ℕ, List, [], ◌∷◌, ◌++◌, Option, Some, None, Result, Ok, Err, IsTrue, IsFalse}
+use Rattle.std.specs.Prelude.{◌≡◌, ◌⊎◌, ℕ, List, [], ◌∷◌, ◌++◌, ℤ, ◌≤◌, Option, Some, None, Result, Ok, Err, IsTrue, IsFalse}
 use Rattle.std.specs.Global.{Vec}
 use Rattle.plain_tree.specs.Description.{Description, description_of}
 use Rattle.plain_tree.specs.IsPlain.{word_width}
@@ -16,15 +16,27 @@ use Rattle.plain_tools.specs.Machine as machine
 use Rattle.nk_outside.specs.Count.{Rose}
 use Rattle.nk_outside.specs.Held.{SameElsewhere}
 use Rattle.nml_suite.specs.Answer.{AreNamed}
-use Rattle.nml_suite.specs.Coming.{EndsWith, IsImageOf, RunComesTo, written_image, first_input}
+use Rattle.nml_suite.specs.Coming.{EndsWith, IsImageOf, RunComesTo, CevalComesTo, written_image, first_input}
 use Rattle.nml_tree.specs.Refused.{IsChecked}
 use Rattle.nml_tree.specs.Table.{table}
 use Rattle.nml_refusals.specs.TreeFault.{IsTreeFault}
 use Rattle.nml_types.specs.Summary.{IsSummary}
 use Rattle.nml_types.specs.declared.checking.Summary.{Summary}
+use Rattle.nml_target.specs.Target.{target}
+use Rattle.nml_target.specs.declared.width.Lacking.{Lacking}
+use Rattle.input_lines.specs.Input.{numbers}
+use Rattle.c_tree.specs.declared.program.CTree.{CTree}
+use Rattle.c_tree.specs.declared.fault.CFault.{CFault}
+use Rattle.c_tree.specs.declared.fault.CFault.TheVariants as program_faults
+use Rattle.c_tree.specs.Accepted.{IsAcceptedTree, IsTreeFaultOf}
+use Rattle.c_tree.specs.Meaning.{outcome}
+use Rattle.c_tree.specs.Resolve.{resolved}
+use Rattle.c_grammar.specs.Trees.{IsTree}
+use Rattle.nml_suite.specs.Programs.{HasProgramFault, IsProgram}
+use Rattle.nml_suite.specs.declared.ceval.Prepared.{Prepared}
 use Rattle.nml_suite.specs.Described.{HasFault, Spells, IsAccepted, IsBuilt, Describes}
 use Rattle.nml_suite.specs.Reading.{Store, Reading, Got, Absent, Failed, TooLong, IsShort, Asked, IsRead, AreRead}
-use Rattle.nml_suite.specs.Reply.{Reply, starved, unread, write_failed, description_fault, not_built_file, accepted, no_match, bad_input, assembled, told_run}
+use Rattle.nml_suite.specs.Reply.{Reply, starved, unread, write_failed, description_fault, not_built_file, accepted, no_match, bad_input, assembled, told_run, no_target, program_fault, told_outcome}
 use Rattle.nml_suite.specs.Work.{Work, Written, telling, IsWriteCall, HasWritten}
 use Rattle.nml_suite.specs.declared.assemble.Assembled.{Assembled}
 use Rattle.nml_suite.specs.declared.ready.Ready.{Ready}
@@ -41,6 +53,8 @@ refused (refusals.Description name fault) = description_fault name.now fault
 refused (refusals.NotBuilt name) = not_built_file name.now
 refused (refusals.NoMatch name line) = no_match name.now line
 refused (refusals.Input name line) = bad_input name.now line
+refused (refusals.Program name fault) = program_fault name.now fault
+refused (refusals.NoTarget name what) = no_target name.now what
 
 -- memory was wanted
 abbrev pub Wants : Refusal → Type 0
@@ -212,3 +226,60 @@ abbrev pub RunSettles : Store → Store → List ℕ → List ℕ → List ℕ �
 RunSettles before now description image input (Ok r) = IsReady before now description image input r.plain r.image
 RunSettles before now description image input (Err refusal) =
     (steps : ℕ) → Settles before now (description ∷ image ∷ input ∷ []) (RunComesTo description image input steps) (telling (refused refusal))
+
+-- ---- `ceval`
+
+-- the description lacks something for programs, which is told
+pub record IsLacking (name : List ℕ) (tree : Desc) (told : Reply) : Type 0 where
+  pub what : Lacking
+  pub lacks : target tree ≡ Err what
+  pub is : told ≡ no_target name what
+
+-- its numbers have so many bits, or it lacks something, or memory was wanted
+abbrev pub IsTargeted : List ℕ → Desc → Result ℕ Refusal → Type 0
+IsTargeted name tree (Ok n) = (target tree ≡ Ok n) × (16 ≤ n) × (n ≤ 32)
+IsTargeted name tree (Err refusal) = Wants refusal ⊎ IsLacking name tree (refused refusal)
+
+-- the bytes of this name have a fault as a program
+pub record IsFaultyProgram (name bytes : List ℕ) (n : ℕ) (told : Reply) : Type 0 where
+  pub fault : CFault
+  pub faulty : HasProgramFault bytes n fault
+  pub is : told ≡ program_fault name fault
+
+-- the bytes spell a program, or they have a fault, or memory was wanted
+abbrev pub IsProgramSpelled : List ℕ → List ℕ → ℕ → Result CTree Refusal → Type 0
+IsProgramSpelled name bytes n (Ok tree) = IsTree bytes tree
+IsProgramSpelled name bytes n (Err refusal) = Wants refusal ⊎ IsFaultyProgram name bytes n (refused refusal)
+
+-- the program has a fault, which is told
+pub record IsRefusedProgram (name : List ℕ) (n : ℕ) (tree : CTree) (told : Reply) : Type 0 where
+  pub fault : CFault
+  pub faulty : IsTreeFaultOf tree n fault
+  pub some : fault ≡ program_faults.Memory → ⊥
+  pub is : told ≡ program_fault name fault
+
+-- it is this program, which has no fault, or it has one, or memory was wanted
+abbrev pub IsProgramChecked : List ℕ → ℕ → CTree → Result (CTree × ℕ) Refusal → Type 0
+IsProgramChecked name n tree (Ok p) = (p ≡ (tree, n)) × IsAcceptedTree tree n
+IsProgramChecked name n tree (Err refusal) = Wants refusal ⊎ IsRefusedProgram name n tree (refused refusal)
+
+-- the bytes are accepted as this program, or they have a fault, or memory was wanted
+abbrev pub IsCompiled : List ℕ → List ℕ → ℕ → Result (CTree × ℕ) Refusal → Type 0
+IsCompiled name bytes n (Ok p) = (p.1 ≡ n) × IsProgram bytes n p.0
+IsCompiled name bytes n (Err refusal) = Wants refusal ⊎ IsFaultyProgram name bytes n (refused refusal)
+
+-- the first line that writes no number that is wanted is told
+pub record IsBadNumber (name : List ℕ) (n : ℕ) (text : List ℕ) (told : Reply) : Type 0 where
+  pub line : ℕ
+  pub bad : numbers n text ≡ Err line
+  pub is : told ≡ bad_input name line
+
+-- these are the numbers of the input, or a line of it is bad, or memory was wanted
+abbrev pub IsNumbered : List ℕ → ℕ → List ℕ → Result (Vec ℤ) Refusal → Type 0
+IsNumbered name n text (Ok found) = numbers n text ≡ Ok found.items
+IsNumbered name n text (Err refusal) = Wants refusal ⊎ IsBadNumber name n text (refused refusal)
+
+-- the run of what was prepared, for at most so many turns, or a refusal is told
+abbrev pub evaluated : ℕ → Result Prepared Refusal → Work
+evaluated turns (Ok p) = telling (told_outcome (outcome (resolved p.program.0) p.program.1 p.numbers.items turns))
+evaluated turns (Err refusal) = telling (refused refusal)

@@ -5,7 +5,14 @@ use Rattle.nk_base.specs.Hexadecimal.{hexadecimal, digits_of_word}
 use Rattle.plain_tools.specs.Machine.{Stop, Running, Halted, NoWord, BadWord}
 use Rattle.plain_tools.specs.Machine as machine
 use Rattle.nml_tree.specs.declared.fault.DescFault.{DescFault}
-use Rattle.nml_suite.specs.FaultText.{fault_text}
+use Rattle.fault_texts.specs.FaultText.{fault_text}
+use Rattle.fault_texts.specs.CFaultText.{c_fault_text}
+use Rattle.c_tree.specs.declared.fault.CFault.{CFault}
+use Rattle.nml_target.specs.declared.width.Lacking.{Lacking}
+use Rattle.nml_target.specs.declared.width.Lacking.TheVariants as lacking
+use Rattle.nk_outside.specs.Outcome.{Outcome, lines}
+use Rattle.nk_outside.specs.declared.stop.Stop as outside
+use Rattle.nk_outside.specs.declared.stop.Stop.TheVariants as ends
 use Rattle.nml_suite.specs.Reading.{Reading, Got, Absent, Failed, TooLong, Unread}
 use Rattle.nml_suite.specs.declared.status.Status.{Status}
 use Rattle.nml_suite.specs.declared.status.Status.TheVariants as statuses
@@ -49,11 +56,25 @@ unread name Unread = starved
 abbrev pub write_failed : List ℕ → Reply
 write_failed name = reply statuses.Write (name ++ codes ": write failed\n")
 
+-- a C program that has this fault
+abbrev pub program_fault : List ℕ → CFault → Reply
+program_fault name fault = reply statuses.Source (name ++ codes ": " ++ c_fault_text fault ++ codes "\n")
+
+-- what a description lacks for programs, behind its name
+abbrev pub lacking_text : Lacking → List ℕ
+lacking_text lacking.Dm = codes ": K4 NoTarget DM\n"
+lacking_text lacking.In = codes ": K4 NoTarget IN\n"
+lacking_text lacking.Out = codes ": K4 NoTarget OUT\n"
+
+-- a description that lacks it
+abbrev pub no_target : List ℕ → Lacking → Reply
+no_target name what = reply statuses.NotClosed (name ++ lacking_text what)
+
 -- no instruction has the tokens of this line
 abbrev pub no_match : List ℕ → ℕ → Reply
 no_match name line = reply statuses.Source (name ++ codes ": S3 NoMatch " ++ decimal line ++ codes "\n")
 
--- this line of an input isn't blank
+-- this line of an input isn't blank, and writes no number that is wanted
 abbrev pub bad_input : List ℕ → ℕ → Reply
 bad_input name line = reply statuses.Input (name ++ codes ": Input " ++ decimal line ++ codes "\n")
 
@@ -101,3 +122,21 @@ stop_status (BadWord place) = statuses.BadWord
 -- a line for each output of a run, and one that tells how it stopped
 abbrev pub told_run : machine.RunOutcome → Reply
 told_run r = reply (stop_status r.stop) (output_lines r.out ++ stop_line r.stop)
+
+-- how a run of a program stopped, on a line
+abbrev pub ending_line : outside.Stop → List ℕ
+ending_line ends.Running = codes "running\n"
+ending_line ends.Ended = codes "halted 0\n"
+ending_line (ends.Trap code) = codes "halted " ++ decimal code ++ codes "\n"
+ending_line ends.Wants = codes "wants input\n"
+
+abbrev pub ending_status : outside.Stop → Status
+ending_status ends.Running = statuses.Budget
+ending_status ends.Ended = statuses.Done
+ending_status (ends.Trap zero) = statuses.Done
+ending_status (ends.Trap (suc code)) = statuses.Stopped
+ending_status ends.Wants = statuses.Wants
+
+-- a line for each output of a program, and one that tells how its run stopped
+abbrev pub told_outcome : Outcome → Reply
+told_outcome o = reply (ending_status o.stop) (lines o.out ++ ending_line o.stop)

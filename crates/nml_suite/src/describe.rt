@@ -1,12 +1,13 @@
 ghost use Rattle.std.specs.Prelude.{◌≡◌, ◌≤◌, length, IfOk, IfErr, IsTrue, IsFalse, if◌then◌else◌};
+ghost use Rattle.fault_texts.specs.FaultText as text;
 ghost use Rattle.nml_suite.specs.Described as spec;
 ghost use Rattle.nk_outside.specs.Held.{file_limit};
 ghost use Rattle.nml_suite.specs.Refusing.{IsDescribed, IsReadAs, IsSpelledAs, IsCheckedAs, IsDescribedBy, refused};
 ghost use Rattle.nml_suite.specs.Reply.{description_fault, not_built_file, starved};
 ghost use Rattle.plain_tree.specs.Description.{description_of};
 
-use crate::fault::is_memory;
 use crate::refusal::Refusal;
+use fault_texts::is_memory;
 use nk_base::{Memory, Text};
 use nml_read::read;
 use nml_tree::{Checked, Desc, DescFault};
@@ -20,7 +21,7 @@ pub fn describe<'a>(alloc: Global, name: &'a Text, bytes: &[u8]) -> Result<Plain
     ensures { IsDescribed name.now bytes.now result }
 {
     let tree = accepted(alloc, name, bytes)?;
-    described(alloc, name, &tree.typed().desc)
+    described(alloc, name, tree_of(&tree))
 }
 
 /// The tree that the bytes of the named file are accepted as.
@@ -30,6 +31,13 @@ pub fn accepted<'a>(alloc: Global, name: &'a Text, bytes: &[u8]) -> Result<Check
 {
     let tree = spelled(alloc, name, bytes)?;
     checked(alloc, name, tree)
+}
+
+/// The tree of a description that is accepted.
+pub fn tree_of(accepted: &Checked) -> &Desc
+    ensures { result.now ≡ accepted.now }
+{
+    &accepted.typed().desc
 }
 
 /// The tree that the bytes of the named file spell.
@@ -55,7 +63,7 @@ fn checked<'a>(alloc: Global, name: &'a Text, tree: Desc) -> Result<Checked, Ref
 
 /// The refusal of the named description for a fault.
 fn refusal_of<'a>(name: &'a Text, fault: DescFault) -> Refusal<'a>
-    ensures { refused result ≡ (if spec.is_memory fault then starved else description_fault name.now fault) }
+    ensures { refused result ≡ (if text.is_memory fault then starved else description_fault name.now fault) }
 {
     if is_memory(&fault) {
         Refusal::Memory

@@ -3,9 +3,10 @@
 
 mod arguments;
 mod assemble;
+mod ceval;
 mod command;
 mod describe;
-mod fault;
+mod evaluate;
 mod law;
 mod load;
 mod ready;

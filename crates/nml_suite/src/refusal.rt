@@ -1,11 +1,13 @@
 ghost use Rattle.std.specs.Prelude.{◌≡◌, ◌++◌, IfOk, codes};
 ghost use Rattle.std.specs.Fmt.{decimal};
 ghost use Rattle.nml_suite.specs.Refusing.{refused};
-ghost use Rattle.nml_suite.specs.Reply.{description_fault};
+ghost use Rattle.nml_suite.specs.Reply.{description_fault, no_target, program_fault};
 
 use crate::Status;
-use crate::fault::push_fault;
+use c_tree::CFault;
+use fault_texts::{push_c_fault, push_fault};
 use nk_base::{Memory, Text, dec};
+use nml_target::Lacking;
 use nml_tree::DescFault;
 use std::alloc::Global;
 
@@ -23,8 +25,12 @@ pub enum Refusal<'a> {
     NotBuilt(&'a Text),
     /// No instruction has the tokens of the line.
     NoMatch(&'a Text, u64),
-    /// The line of an input isn't blank.
+    /// The line of an input isn't blank, and writes no number that is wanted.
     Input(&'a Text, u64),
+    /// The file is no program, and why.
+    Program(&'a Text, CFault),
+    /// The file is no description for programs, and why.
+    NoTarget(&'a Text, Lacking),
 }
 
 impl Refusal<'_> {
@@ -41,6 +47,8 @@ impl Refusal<'_> {
             Refusal::NotBuilt(_) => Status::NotBuilt,
             Refusal::NoMatch(_, _) => Status::Source,
             Refusal::Input(_, _) => Status::Input,
+            Refusal::Program(_, _) => Status::Source,
+            Refusal::NoTarget(_, _) => Status::NotClosed,
         }
     }
 
@@ -58,6 +66,8 @@ impl Refusal<'_> {
             Refusal::NotBuilt(name) => named(alloc, name, b": not built\n"),
             Refusal::NoMatch(name, line) => numbered(alloc, name, b": S3 NoMatch ", *line),
             Refusal::Input(name, line) => numbered(alloc, name, b": Input ", *line),
+            Refusal::Program(name, fault) => faulty_program(alloc, name, fault),
+            Refusal::NoTarget(name, what) => lacking(alloc, name, *what),
         }
     }
 }
@@ -79,6 +89,27 @@ fn faulty(alloc: Global, name: &Text, fault: &DescFault) -> Result<Text, Memory>
     push_fault(alloc, &mut line, fault)?;
     line.push_bytes(b"\n")?;
     Ok(line)
+}
+
+/// A name, and the fault of the program that has it.
+fn faulty_program(alloc: Global, name: &Text, fault: &CFault) -> Result<Text, Memory>
+    ensures { IfOk result (λ t. t ≡ (program_fault name.now fault.now).text) }
+{
+    let mut line = named(alloc, name, b": ")?;
+    push_c_fault(alloc, &mut line, fault)?;
+    line.push_bytes(b"\n")?;
+    Ok(line)
+}
+
+/// A name, and what the description that has it lacks for programs.
+fn lacking(alloc: Global, name: &Text, what: Lacking) -> Result<Text, Memory>
+    ensures { IfOk result (λ t. t ≡ (no_target name.now what).text) }
+{
+    match what {
+        Lacking::Dm => named(alloc, name, b": K4 NoTarget DM\n"),
+        Lacking::In => named(alloc, name, b": K4 NoTarget IN\n"),
+        Lacking::Out => named(alloc, name, b": K4 NoTarget OUT\n"),
+    }
 }
 
 /// A name, what stands behind it, and the number of a line.

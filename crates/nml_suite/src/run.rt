@@ -130,7 +130,7 @@ fn put_stop<S: Sink>(alloc: Global, sink: &mut S, stop: Stop) -> Result<(), Writ
 }
 
 /// Puts a line of this text and a number.
-fn put_line<S: Sink>(
+pub fn put_line<S: Sink>(
     alloc: Global,
     sink: &mut S,
     before: &[u8],

@@ -1,13 +1,15 @@
 ghost use Rattle.std.specs.Prelude.{Some};
 ghost use Rattle.nml_suite.specs.Answer.{Answers, moment};
-ghost use Rattle.nml_suite.specs.Form.{form_of, Asm, Check, Run};
+ghost use Rattle.nml_suite.specs.Form.{form_of, Asm, Ceval, Check, Run};
 ghost use Rattle.nml_suite.specs.Promises.{KeepsPromises};
 ghost use Rattle.nml_suite.specs.Reply.{not_built};
 ghost use Rattle.nml_suite.specs.Told.{Told};
 
 use crate::Status;
 use crate::assemble::{assemble, save};
+use crate::ceval::prepare_program;
 use crate::command::{Command, command_of};
+use crate::evaluate::tell_outcome;
 use crate::ready::prepare;
 use crate::run::tell_run;
 use crate::summary::sum_up_file;
@@ -79,12 +81,12 @@ fn answer<F: Files, S: Sink>(
         ) => tell_not_built(alloc, sink),
         Some(
             Command::Ceval {
-                description: _,
-                source: _,
-                input: _,
-                turns: _,
+                description,
+                source,
+                input,
+                turns,
             },
-        ) => tell_not_built(alloc, sink),
+        ) => answer_ceval(alloc, files, sink, description, source, input, turns),
         Some(Command::Demo(_)) => tell_not_built(alloc, sink),
         None => tell(alloc, sink, USAGE, Status::Usage),
     }
@@ -147,6 +149,24 @@ fn answer_run<F: Files, S: Sink>(
 {
     match prepare(alloc, files, description, image, input) {
         Ok(ready) => tell_run(alloc, sink, &ready, steps),
+        Err(refusal) => tell_refusal(alloc, sink, &refusal),
+    }
+}
+
+/// Runs the meaning of a program, and puts its outputs.
+fn answer_ceval<F: Files, S: Sink>(
+    alloc: Global,
+    files: &mut F,
+    sink: &mut S,
+    description: &Text,
+    source: &Text,
+    input: &Text,
+    turns: u64,
+) -> Status
+    ensures { Answers (moment (F.held files.old) (F.counts files.old) (S.taken sink.old) (S.faults sink.old)) (moment (F.held files.new) (F.counts files.new) (S.taken sink.new) (S.faults sink.new)) (Some (Ceval description.now source.now input.now turns)) result }
+{
+    match prepare_program(alloc, files, description, source, input) {
+        Ok(ready) => tell_outcome(alloc, sink, &ready, turns),
         Err(refusal) => tell_refusal(alloc, sink, &refusal),
     }
 }

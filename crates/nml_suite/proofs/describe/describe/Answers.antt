@@ -12,4 +12,4 @@ returns-in_err-tree c =
 pub returns : goal.returns
 returns c =
     accepted c.args.name.now c.args.bytes.now c.in_ok-tree.tree c.described.result c.in_ok-tree.ensures
-    (subst (λ t. IsDescribedBy c.args.name.now t c.described.result) c.tree.view_is c.described.ensures)
+    (subst (λ t. IsDescribedBy c.args.name.now t c.described.result) c.tree_of.ensures c.described.ensures)

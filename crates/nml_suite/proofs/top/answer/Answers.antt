@@ -9,9 +9,6 @@ returns-in-Some-Dis g c = let e = rw (c.deref.ensures.value, c.in-Some-Dis.field
 pub returns-in-Some-Cc : goal.returns-in-Some-Cc
 returns-in-Some-Cc g c = let e = rw (c.deref.ensures.value, c.in-Some-Cc.field-0-is) at c.in-Some-Cc.ensures in other_told _ _ _ _ _ _ _ (subst IsOther e tt) c.tell_not_built-in-Some-Cc.ensures
 
-pub returns-in-Some-Ceval : goal.returns-in-Some-Ceval
-returns-in-Some-Ceval g c = let e = rw (c.deref.ensures.value, c.in-Some-Ceval.field-0-is) at c.in-Some-Ceval.ensures in other_told _ _ _ _ _ _ _ (subst IsOther e tt) c.tell_not_built-in-Some-Ceval.ensures
-
 pub returns-in-Some-Demo : goal.returns-in-Some-Demo
 returns-in-Some-Demo g c = let e = rw (c.deref.ensures.value, c.in-Some-Demo.field-0-is) at c.in-Some-Demo.ensures in other_told _ _ _ _ _ _ _ (subst IsOther e tt) c.tell_not_built-in-Some-Demo.ensures
 

@@ -1,7 +1,7 @@
 use Rattle.std.proofs.Common.{◌++◌, codes}
-use Rattle.nml_suite.specs.FaultText.{quoted, word_text}
-use Rattle.nml_suite.proofs.Lines.{on_ok, behind}
-use Rattle.nml_suite.proofs.fault.push_same_syntax.Goals as goal
+use Rattle.fault_texts.specs.FaultText.{quoted, word_text}
+use Rattle.fault_texts.proofs.Behind.{on_ok, behind}
+use Rattle.fault_texts.proofs.description.push_same_syntax.Goals as goal
 
 pub returns : goal.returns
 returns c =

@@ -1,5 +1,5 @@
 -- How a fault of a description is told: its number and name, and its fields, each after one blank.
-use Rattle.std.specs.Prelude.{ℕ, List, [], ◌++◌, codes}
+use Rattle.std.specs.Prelude.{ℕ, List, [], ◌++◌, codes, Bool, true, false}
 use Rattle.std.specs.Fmt.{decimal}
 use Rattle.nk_base.specs.Hexadecimal.{hexadecimal, digits_of_word}
 use Rattle.nk_base.specs.declared.number.Bits.{Bits}
@@ -20,6 +20,11 @@ word_text word = hexadecimal (digits_of_word word.width) word.value
 abbrev pub root_text : Root → List ℕ
 root_text roots.Instruction = codes "instruction"
 root_text roots.Pc = codes "PC"
+
+-- memory was wanted, which is no fault of a description
+abbrev pub is_memory : DescFault → Bool
+is_memory faults.Memory = true
+is_memory _ = false
 
 -- want of memory isn't told so
 abbrev pub fault_text : DescFault → List ℕ

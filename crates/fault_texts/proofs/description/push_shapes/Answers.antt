@@ -1,7 +1,7 @@
 use Rattle.std.proofs.Common.{◌++◌, codes}
 use Rattle.std.specs.Fmt.{decimal}
-use Rattle.nml_suite.proofs.Lines.{on_ok, behind}
-use Rattle.nml_suite.proofs.fault.push_shapes.Goals as goal
+use Rattle.fault_texts.proofs.Behind.{on_ok, behind}
+use Rattle.fault_texts.proofs.description.push_shapes.Goals as goal
 
 pub returns : goal.returns
 returns c =

@@ -1,16 +1,15 @@
 //! How a fault of a description is told: one line for any of them.
-ghost use Rattle.std.specs.Prelude.{◌≡◌, ◌++◌, ℕ, List, OnOk, codes};
-ghost use Rattle.std.specs.Fmt.{decimal};
-ghost use Rattle.nml_suite.specs.Described as described;
-ghost use Rattle.nml_suite.specs.FaultText as spec;
+ghost use Rattle.std.specs.Prelude.{◌≡◌, ◌++◌, OnOk};
+ghost use Rattle.fault_texts.specs.FaultText as spec;
 
-use nk_base::{Bits, Memory, Text, dec, push_hexadecimal};
+use crate::push::{push_name, push_number};
+use nk_base::{Bits, Memory, Text, push_hexadecimal};
 use nml_tree::{DescFault, Root};
 use std::alloc::Global;
 
 /// Whether memory was wanted, which is no fault of a description.
 pub fn is_memory(fault: &DescFault) -> bool
-    ensures { result ≡ described.is_memory fault.now }
+    ensures { result ≡ spec.is_memory fault.now }
 {
     match fault {
         DescFault::Lex { at: _ } => false,
@@ -69,22 +68,6 @@ pub fn push_fault(alloc: Global, line: &mut Text, fault: &DescFault) -> Result<(
         DescFault::SameSyntax { a, b, text } => push_same_syntax(line, a, b, text),
         DescFault::Memory => Ok(()),
     }
-}
-
-/// Appends a text and a number.
-fn push_number(alloc: Global, line: &mut Text, before: &[u8], number: u64) -> Result<(), Memory>
-    ensures { OnOk result (line.new ≡ line.old ++ (before.now ++ decimal number)) }
-{
-    line.push_bytes(before)?;
-    line.push_bytes(dec(alloc, i128::from(number))?.as_bytes())
-}
-
-/// Appends a text and a name.
-fn push_name(line: &mut Text, before: &[u8], name: &Text) -> Result<(), Memory>
-    ensures { OnOk result (line.new ≡ line.old ++ (before.now ++ name.now)) }
-{
-    line.push_bytes(before)?;
-    line.push_bytes(name.as_bytes())
 }
 
 /// Appends a text and a word in hexadecimal.
