@@ -15,7 +15,7 @@ use Rattle.nml_suite.specs.Refusing.{refused, file_named, Settles, IsStored, IsR
 use Rattle.nml_suite.specs.Reply.{Reply, reply, not_built, told_run, usage_line}
 use Rattle.nml_suite.specs.Running.{TellsRun, opened}
 use Rattle.nml_suite.specs.Told.{Told}
-use Rattle.nml_suite.specs.Work.{Work, Written, telling, IsSaved, Filed, Kept, Failed, Starved}
+use Rattle.nml_suite.specs.Work.{Work, Written, telling, Filed, Kept, Failed, Starved}
 use Rattle.nml_suite.specs.declared.ready.Ready.{Ready}
 use Rattle.nml_suite.specs.declared.refusal.Refusal.{Refusal}
 use Rattle.nml_suite.specs.declared.status.Status.{Status}

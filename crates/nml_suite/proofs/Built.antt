@@ -1,14 +1,10 @@
 -- What a tree is where its description isn't built.
-use Rattle.std.proofs.Common.{inr, ◌≡◌, List, ℕ, [], ◌∷◌, map, length, ap, refl, sym, subst, ◌∙◌}
-use Rattle.std.specs.Prelude.{nat_eq, ◌&&◌, IsTrue, IsFalse, Option, Some, None, is_none, Result, Ok, Err, IfOk, IfErr}
+use Rattle.std.proofs.Common.{inr, ◌≡◌, List, ℕ, ap, sym, subst, ◌∙◌}
+use Rattle.std.specs.Prelude.{IsTrue, IsFalse, Result, Ok, Err, IfOk, IfErr}
 use Rattle.std.proofs.lemmas.Bool.{false≢true}
-use Rattle.std.specs.Option.{option_map}
-use Rattle.std.specs.List.{list_all}
-use Rattle.plain_tree.specs.Description.{rule_of, field_of, description_of}
+use Rattle.plain_tree.specs.Description.{description_of}
 use Rattle.plain_tree.specs.PlainTree.{IsPlainTree}
 use Rattle.plain_tree.specs.declared.rules.Plain.{Plain}
-use Rattle.plain_tree.specs.declared.rules.PlainField.{PlainField}
-use Rattle.plain_tree.specs.declared.rules.PlainRule.{PlainRule}
 use Rattle.nml_tree.specs.declared.tree.Desc.{Desc}
 use Rattle.nml_suite.specs.Described.{has_pc}
 use Rattle.nml_suite.specs.Reply.{not_built_file}

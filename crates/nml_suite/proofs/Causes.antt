@@ -220,7 +220,7 @@ ceval_owes b n d s x turns xs w calls c =
     (λ width. opens_owe b n form 1 s _ more w refl calls_more c_more
     (λ text rest q calls_rest c_rest.
     let source : HasSource b form =
-        record { description = t; bits = width.0; target_is = width.1; source = record { name = s; named = refl; bytes = text; read = q } } in
+    record { description = t; bits = width.0; target_is = width.1; source = record { name = s; named = refl; bytes = text; read = q } } in
     compiles_owe b n form source _ rest w
     (λ program is. opens_owe b n form 2 x _ rest w refl calls_rest c_rest
     (λ entry last k calls_last c_last.

@@ -1,6 +1,6 @@
 -- The two commands compose.
-use Rattle.std.proofs.Common.{◌≡◌, ℕ, List, [], ◌∷◌, Some, None, refl, sym, ap, ◌∙◌, subst}
-use Rattle.std.specs.Prelude.{Bool, true, false, if◌then◌else◌, IsTrue}
+use Rattle.std.proofs.Common.{◌≡◌, ℕ, List, [], ◌∷◌, Some, refl, sym, ap, ◌∙◌, subst}
+use Rattle.std.specs.Prelude.{IsTrue}
 use Rattle.plain_tree.specs.Description.{Description}
 use Rattle.plain_tree.specs.PlainTree.{IsPlainTree}
 use Rattle.nml_tree.specs.declared.tree.Desc.{Desc}

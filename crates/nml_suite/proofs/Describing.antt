@@ -7,9 +7,9 @@ use Rattle.nml_tree.specs.declared.fault.DescFault.TheVariants as faults
 use Rattle.nml_tree.specs.Refused.{IsChecked, IsRefused}
 use Rattle.nml_grammar.specs.Trees.{IsReadFault}
 use Rattle.fault_texts.specs.FaultText.{is_memory}
-use Rattle.nml_suite.specs.Described.{Spells, HasFault, NoTokens, NoTree, Floating, Refused}
+use Rattle.nml_suite.specs.Described.{Spells, NoTokens, NoTree, Floating, Refused}
 use Rattle.nml_suite.specs.Reply.{Reply, starved, description_fault}
-use Rattle.nml_suite.specs.Refusing.{IsDescribed, IsReadAs, IsCheckedAs, IsRefusedTree, IsFaulty, IsDescribedBy, refused}
+use Rattle.nml_suite.specs.Refusing.{IsDescribed, IsReadAs, IsCheckedAs, IsRefusedTree, IsFaulty, IsDescribedBy}
 use Rattle.nml_suite.specs.declared.refusal.Refusal.{Refusal}
 
 -- bytes with a fault are no description

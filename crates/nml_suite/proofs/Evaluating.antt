@@ -1,5 +1,5 @@
 -- What was put out of a program's run, and how the call ends.
-use Rattle.std.proofs.Common.{◌≡◌, ℕ, List, ◌++◌, Option, Result, Ok, Err, sym, ap, ◌∙◌, subst}
+use Rattle.std.proofs.Common.{◌≡◌, ℕ, List, Option, Ok, Err, sym, ap, ◌∙◌, subst}
 use Rattle.nk_outside.specs.Outcome.{Outcome, lines}
 use Rattle.nk_outside.specs.Taken.{Took, TookFront}
 use Rattle.nk_outside.specs.declared.files.WriteFault.{WriteFault}

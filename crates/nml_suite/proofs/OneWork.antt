@@ -1,5 +1,5 @@
 -- However the reads are answered, words come to one thing alone.
-use Rattle.std.proofs.Common.{◌≡◌, ℕ, suc, List, [], ◌∷◌, ℤ, Option, Some, None, refl, sym, ap, ◌∙◌, subst, arith}
+use Rattle.std.proofs.Common.{◌≡◌, ℕ, suc, List, [], ◌∷◌, Option, Some, None, refl, sym, ap, ◌∙◌, subst, arith}
 use Rattle.plain_tree.specs.Description.{Description}
 use Rattle.plain_tree.specs.IsPlain.{IsPlain}
 use Rattle.nml_tree.specs.declared.tree.Desc.{Desc}

@@ -16,7 +16,7 @@ use Rattle.c_grammar.proofs.OneReading.{one_bytes, tree_or_none, tree_or_outside
 use Rattle.c_check.proofs.OneFault as checking
 use Rattle.nml_suite.specs.Programs.{HasProgramFault, NoProgramTokens, LeftOut, NoProgram, RefusedProgram, IsProgram}
 use Rattle.nml_suite.specs.Reply.{Reply, starved, program_fault}
-use Rattle.nml_suite.specs.Refusing.{IsFaultyProgram, IsRefusedProgram, IsProgramChecked, IsCompiled, refused}
+use Rattle.nml_suite.specs.Refusing.{IsFaultyProgram, IsRefusedProgram, IsProgramChecked, IsCompiled}
 use Rattle.nml_suite.specs.declared.refusal.Refusal.{Refusal}
 
 -- ---- what is told

@@ -1,5 +1,5 @@
 -- When each answer comes, and what was told with it.
-use Rattle.std.specs.Prelude.{◌≡◌, ◌⊎◌, ℕ, suc, ◌+◌, ◌≤◌, List, ℤ, Result, Ok, Err, Option, Some, None, slice_get, IsTrue, IsFalse}
+use Rattle.std.specs.Prelude.{◌≡◌, ◌⊎◌, ℕ, suc, ◌+◌, ◌≤◌, List, ℤ, Ok, Err, Option, Some, None, slice_get, IsTrue, IsFalse}
 use Rattle.nk_outside.specs.Count.{Rose}
 use Rattle.nk_outside.specs.Held.{Reads, Lacks, IsTooLong}
 use Rattle.nk_outside.specs.Taken.{Took}

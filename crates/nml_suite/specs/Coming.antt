@@ -1,6 +1,6 @@
 -- What a call comes to, by the words and what each read answered: the files in the order of the words, each with its own refusals.
 -- Each step takes what was asked for, in order, and goes on with the rest of it; at the end nothing more is asked for.
-use Rattle.std.specs.Prelude.{◌≡◌, ℕ, ◌+◌, ◌^◌, List, [], ◌∷◌, ℤ, Result, Ok, Err, Option, Some, None, IsTrue, IsFalse, if◌then◌else◌}
+use Rattle.std.specs.Prelude.{◌≡◌, ℕ, ◌+◌, ◌^◌, List, [], ◌∷◌, ℤ, Ok, Err, Option, Some, None, IsTrue, IsFalse, if◌then◌else◌}
 use Rattle.std.specs.List.{list_all}
 use Rattle.sha2.specs.Sha256.{sha256}
 use Rattle.nk_base.specs.Byte.{is_blank}

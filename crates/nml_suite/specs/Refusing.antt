@@ -1,5 +1,5 @@
 -- For private contracts: what a refusal tells, what a step of a command refuses, and what the reading of its files comes to.
-use Rattle.std.specs.Prelude.{◌≡◌, ◌⊎◌, ℕ, List, [], ◌∷◌, ◌++◌, ℤ, ◌≤◌, Option, Some, None, Result, Ok, Err, IsTrue, IsFalse}
+use Rattle.std.specs.Prelude.{◌≡◌, ◌⊎◌, ℕ, List, [], ◌∷◌, ◌++◌, ℤ, ◌≤◌, Some, None, Result, Ok, Err, IsTrue, IsFalse}
 use Rattle.std.specs.Global.{Vec}
 use Rattle.plain_tree.specs.Description.{Description, description_of}
 use Rattle.plain_tree.specs.IsPlain.{word_width}
@@ -16,7 +16,7 @@ use Rattle.plain_tools.specs.Machine as machine
 use Rattle.nk_outside.specs.Count.{Rose}
 use Rattle.nk_outside.specs.Held.{SameElsewhere}
 use Rattle.nml_suite.specs.Answer.{AreNamed}
-use Rattle.nml_suite.specs.Coming.{EndsWith, IsImageOf, RunComesTo, CevalComesTo, written_image, first_input}
+use Rattle.nml_suite.specs.Coming.{EndsWith, IsImageOf, RunComesTo, written_image, first_input}
 use Rattle.nml_tree.specs.Refused.{IsChecked}
 use Rattle.nml_tree.specs.Table.{table}
 use Rattle.nml_refusals.specs.TreeFault.{IsTreeFault}
