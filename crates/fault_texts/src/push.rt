@@ -7,12 +7,7 @@ use nk_base::{Memory, Text, dec};
 use std::alloc::Global;
 
 /// Appends a text and a number.
-pub fn push_number(
-    alloc: Global,
-    line: &mut Text,
-    before: &[u8],
-    number: u64,
-) -> Result<(), Memory>
+pub fn push_number(alloc: Global, line: &mut Text, before: &[u8], number: u64) -> Result<(), Memory>
     ensures { OnOk result (line.new ≡ line.old ++ (before.now ++ decimal number)) }
 {
     line.push_bytes(before)?;
