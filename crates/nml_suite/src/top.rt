@@ -1,6 +1,6 @@
 ghost use Rattle.std.specs.Prelude.{Some};
 ghost use Rattle.nml_suite.specs.Answer.{Answers, moment};
-ghost use Rattle.nml_suite.specs.Form.{form_of, Asm, Ceval, Check, Run};
+ghost use Rattle.nml_command.specs.Form.{form_of, Asm, Ceval, Check, Run};
 ghost use Rattle.nml_suite.specs.Promises.{KeepsPromises};
 ghost use Rattle.nml_suite.specs.Reply.{not_built};
 ghost use Rattle.nml_suite.specs.Told.{Told};
@@ -8,13 +8,13 @@ ghost use Rattle.nml_suite.specs.Told.{Told};
 use crate::Status;
 use crate::assemble::{assemble, save};
 use crate::ceval::prepare_program;
-use crate::command::{Command, command_of};
 use crate::evaluate::tell_outcome;
 use crate::ready::prepare;
 use crate::run::tell_run;
 use crate::summary::sum_up_file;
 use crate::tell::{tell, tell_assembled, tell_refusal, tell_summary};
 use nk_base::Text;
+use nml_command::{Command, command_of};
 use nk_outside::{Files, Sink};
 use std::alloc::Global;
 
