@@ -14,8 +14,8 @@ use crate::run::tell_run;
 use crate::summary::sum_up_file;
 use crate::tell::{tell, tell_assembled, tell_refusal, tell_summary};
 use nk_base::Text;
-use nml_command::{Command, command_of};
 use nk_outside::{Files, Sink};
+use nml_command::{Command, command_of};
 use std::alloc::Global;
 
 /// Where the words match no form.
