@@ -9,7 +9,7 @@ use Rattle.plain_tree.specs.IsPlain.{IsPlain}
 use Rattle.nml_suite.specs.Answer.{Answers, Moment, IsNamed}
 use Rattle.nml_suite.specs.Cause.{IsOther}
 use Rattle.nml_suite.specs.Coming.{ComesTo}
-use Rattle.nml_suite.specs.Form.{Form, Check, Asm, Dis, Run, Cc, Ceval, Demo, named_to_read, named_to_write}
+use Rattle.nml_command.specs.Form.{Form, Check, Asm, Dis, Run, Cc, Ceval, Demo, named_to_read, named_to_write}
 use Rattle.nml_suite.specs.Reading.{Store}
 use Rattle.nml_suite.specs.Refusing.{refused, file_named, Settles, IsStored, IsReady}
 use Rattle.nml_suite.specs.Reply.{Reply, reply, not_built, told_run, usage_line}

@@ -20,7 +20,7 @@ use Rattle.nk_outside.specs.declared.stop.Stop as outside
 use Rattle.nk_outside.specs.declared.stop.Stop.TheVariants as ends
 use Rattle.c_tree.specs.declared.program.CTree.{CTree}
 use Rattle.nml_suite.specs.Programs.{IsProgram}
-use Rattle.nml_suite.specs.Form.{Form, Check, Asm, Dis, Run, Cc, Ceval, Demo, named_to_read}
+use Rattle.nml_command.specs.Form.{Form, Check, Asm, Dis, Run, Cc, Ceval, Demo, named_to_read}
 use Rattle.nml_suite.specs.Reading.{Store, Reading, Got, Absent, Failed, TooLong, Unread, IsShort, HasReading, Asked}
 use Rattle.nml_suite.specs.Reply.{Reply, unread, starved, not_built, stop_status, told_run, ending_status, told_outcome}
 use Rattle.nml_suite.specs.Told.{Told, Whole, Cut, Starved, CutStarved, EndsIn}

@@ -4,7 +4,7 @@ use Rattle.plain_tree.specs.Description.{Description}
 use Rattle.nml_tree.specs.declared.tree.Desc.{Desc}
 use Rattle.nml_suite.specs.Coming.{EndsWith, SumsUp, Summed, Opens, Short, Opened, Accepts, Faulty, Accepted, Simplifies, Other, Plain, AssemblesTo, NotPlain, NoMatch, Words, Loads, NoImage, Loaded, RunsTo, Input, Ran, Targets, NoTarget, Targeted, Compiles, FaultyProgram, SoundProgram, EvaluatesTo, BadNumber, Evaluated, ComesTo}
 use Rattle.c_tree.specs.declared.program.CTree.{CTree}
-use Rattle.nml_suite.specs.Form.{Form, Check, Asm, Dis, Run, Cc, Ceval, Demo}
+use Rattle.nml_command.specs.Form.{Form, Check, Asm, Dis, Run, Cc, Ceval, Demo}
 use Rattle.nml_suite.specs.Reading.{Reading, Unread, IsShort, Asked}
 use Rattle.nml_suite.specs.Reply.{Reply}
 use Rattle.nml_suite.specs.Work.{Work, Written, telling}

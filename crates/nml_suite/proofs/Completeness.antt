@@ -9,7 +9,7 @@ use Rattle.nml_suite.specs.Answer.{Moment, Answers}
 use Rattle.nml_suite.specs.Coming.{ComesTo}
 use Rattle.nml_suite.specs.Complete.{NeverFails, AnswersInFull, IsAnswered, IsComplete, AreAnswered, reading_of, told_of}
 use Rattle.nml_suite.specs.Files.{HaveCauses}
-use Rattle.nml_suite.specs.Form.{Form}
+use Rattle.nml_command.specs.Form.{Form}
 use Rattle.nml_suite.specs.Reading.{Store, Reading, Got, Absent, TooLong, Unread, HasReading, Asked}
 use Rattle.nml_suite.specs.Reading as readings
 use Rattle.nml_suite.specs.Reply.{Reply, starved}

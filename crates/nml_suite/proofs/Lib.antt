@@ -18,4 +18,3 @@ pub mod ReadRows
 pub mod SomeWork
 pub mod Telling
 pub mod Untouched
-pub mod Words

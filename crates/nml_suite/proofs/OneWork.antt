@@ -15,7 +15,7 @@ use Rattle.plain_tools.proofs.OneRun.{one_run}
 use Rattle.nml_suite.specs.Coming.{EndsWith, SumsUp, Summed, Opens, Short, Opened, Accepts, Faulty, Accepted, Simplifies, Other, Plain, AssemblesTo, NotPlain, NoMatch, Words, Loads, NoImage, Loaded, RunsTo, Input, Ran, IsImageOf, Targets, NoTarget, Targeted, Compiles, FaultyProgram, SoundProgram, EvaluatesTo, BadNumber, Evaluated, ComesTo, picture, made}
 use Rattle.nml_suite.specs.Complete.{Answering, AreAnswered, ComesOut}
 use Rattle.nml_suite.specs.Described.{IsAccepted}
-use Rattle.nml_suite.specs.Form.{Form, Check, Asm, Dis, Run, Cc, Ceval, Demo}
+use Rattle.nml_command.specs.Form.{Form, Check, Asm, Dis, Run, Cc, Ceval, Demo}
 use Rattle.nml_suite.specs.Reading.{Got, IsShort, Asked}
 use Rattle.nml_suite.specs.Reply.{Reply, unread, accepted, description_fault, no_match, bad_input, told_run, no_target, program_fault, told_outcome}
 use Rattle.nml_suite.specs.Work.{Work, telling}

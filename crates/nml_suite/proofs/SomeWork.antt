@@ -32,7 +32,7 @@ use Rattle.c_grammar.proofs.SomeReading.{some_bytes}
 use Rattle.c_check.proofs.SomeFault.{accepted_if_none}
 use Rattle.nml_suite.specs.Programs.{HasProgramFault, NoProgramTokens, LeftOut, NoProgram, RefusedProgram, IsProgram}
 use Rattle.nml_suite.proofs.Programs.{memory_only}
-use Rattle.nml_suite.specs.Form.{Form, Check, Asm, Dis, Run, Cc, Ceval, Demo}
+use Rattle.nml_command.specs.Form.{Form, Check, Asm, Dis, Run, Cc, Ceval, Demo}
 use Rattle.nml_suite.specs.Reading.{Reading, Got, Absent, Failed, TooLong, Unread, Asked}
 use Rattle.nml_suite.specs.Reply.{Reply, told_run}
 use Rattle.nml_suite.specs.Work.{Work, telling}

@@ -4,7 +4,7 @@ use Rattle.nk_outside.specs.Count.{Rose}
 use Rattle.nml_suite.specs.Answer.{Moment, Answers, AreNamed}
 use Rattle.nml_suite.specs.Coming.{ComesTo}
 use Rattle.nml_suite.specs.Files.{KeepsFiles, HasDefined, HasWork, Leaves, IsRefusal, LeavesOthers, CallsOnce}
-use Rattle.nml_suite.specs.Form.{Form, named_to_read, named_to_write}
+use Rattle.nml_command.specs.Form.{Form, named_to_read, named_to_write}
 use Rattle.nml_suite.specs.Reading.{Store, Asked}
 use Rattle.nml_suite.specs.Reply.{Reply, starved}
 use Rattle.nml_suite.specs.Told.{Told, Whole, Cut, CutStarved}

@@ -3,7 +3,7 @@ use Rattle.std.specs.Prelude.{◌≡◌, ◌⊎◌, ℕ, List, [], ◌∷◌, Op
 use Rattle.nk_outside.specs.Count.{Counts}
 use Rattle.nk_outside.specs.Held.{Names}
 use Rattle.nml_suite.specs.Coming.{ComesTo}
-use Rattle.nml_suite.specs.Form.{Form, named_to_read, named_to_write}
+use Rattle.nml_command.specs.Form.{Form, named_to_read, named_to_write}
 use Rattle.nml_suite.specs.Reading.{Store, store, Asked, AreRead}
 use Rattle.nml_suite.specs.Reply.{Reply, starved}
 use Rattle.nml_suite.specs.Told.{Told}

@@ -28,7 +28,7 @@ use Rattle.nml_suite.specs.Coming.{IsImageOf, first_input, made}
 use Rattle.nml_suite.specs.Described.{HasFault, IsAccepted, IsBuilt, Describes}
 use Rattle.nml_suite.specs.Programs.{HasProgramFault, IsProgram}
 use Rattle.nml_suite.specs.Files.{Leaves}
-use Rattle.nml_suite.specs.Form.{Form, Check, Asm, Dis, Run, Cc, Ceval, Demo, named_to_read, named_to_write}
+use Rattle.nml_command.specs.Form.{Form, Check, Asm, Dis, Run, Cc, Ceval, Demo, named_to_read, named_to_write}
 use Rattle.nml_suite.specs.Reading.{Reading, Absent, Failed, TooLong}
 use Rattle.nml_suite.specs.Reply.{usage_line, unread, description_fault, not_built, not_built_file, accepted, no_match, bad_input, told_run, no_target, program_fault, told_outcome}
 use Rattle.nml_suite.specs.Told.{EndsIn}

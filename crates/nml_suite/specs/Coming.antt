@@ -25,7 +25,7 @@ use Rattle.c_tree.specs.Meaning.{outcome}
 use Rattle.c_tree.specs.Resolve.{resolved}
 use Rattle.nml_suite.specs.Described.{HasFault, IsAccepted, IsBuilt}
 use Rattle.nml_suite.specs.Programs.{HasProgramFault, IsProgram}
-use Rattle.nml_suite.specs.Form.{Form, Check, Asm, Dis, Run, Cc, Ceval, Demo}
+use Rattle.nml_command.specs.Form.{Form, Check, Asm, Dis, Run, Cc, Ceval, Demo}
 use Rattle.nml_suite.specs.Reading.{Reading, Got, Asked, IsShort}
 use Rattle.nml_suite.specs.Reply.{Reply, reply, unread, usage_line, description_fault, not_built, not_built_file, accepted, no_match, bad_input, assembled, told_run, no_target, program_fault, told_outcome}
 use Rattle.nml_suite.specs.Work.{Work, Written, telling}

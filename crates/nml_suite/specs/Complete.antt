@@ -6,7 +6,7 @@ use Rattle.nk_outside.specs.Taken.{Took}
 use Rattle.nml_suite.specs.Answer.{Moment}
 use Rattle.nml_suite.specs.Coming.{ComesTo}
 use Rattle.nml_suite.specs.Files.{Leaves}
-use Rattle.nml_suite.specs.Form.{Form}
+use Rattle.nml_command.specs.Form.{Form}
 use Rattle.nml_suite.specs.Reading.{Reading, Got, Absent, TooLong, Unread, Asked}
 use Rattle.nml_suite.specs.Work.{Work}
 use Rattle.nml_suite.specs.declared.status.Status.{Status}

@@ -1,4 +1,3 @@
-pub mod Form
 pub mod Status
 pub mod Reading
 pub mod Reply

@@ -4,7 +4,7 @@ use Rattle.nml_suite.specs.Answer.{Moment, Answers}
 use Rattle.nml_suite.specs.Cause.{HasCause, IsUsage}
 use Rattle.nml_suite.specs.Complete.{IsComplete}
 use Rattle.nml_suite.specs.Files.{LeavesOthers, CallsOnce}
-use Rattle.nml_suite.specs.Form.{Form}
+use Rattle.nml_command.specs.Form.{Form}
 use Rattle.nml_suite.specs.declared.status.Status.{Status}
 
 pub record KeepsPromises (before now : Moment) (form : Option Form) (status : Status) : Type 0 where

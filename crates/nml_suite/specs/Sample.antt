@@ -16,7 +16,7 @@ use Rattle.plain_tools.specs.Assembly.{Assembles}
 use Rattle.nml_suite.specs.Coming.{Opened, Accepted, Plain, Words, RunsTo, Input, Ran, AsmComesTo, first_input, written_image, picture}
 use Rattle.nml_suite.specs.Described.{IsAccepted, has_pc}
 use Rattle.nml_suite.specs.Reading.{Got}
-use Rattle.nml_suite.specs.Form.{Asm, Run, Demo, form_of, files_to_read, file_to_write}
+use Rattle.nml_command.specs.Form.{Asm, Run, Demo, form_of, files_to_read, file_to_write}
 use Rattle.nml_suite.specs.Reply.{description_fault, reply, output_lines, word_lines}
 use Rattle.nml_suite.specs.Work.{telling}
 use Rattle.nml_suite.specs.declared.status.Status.TheVariants as statuses

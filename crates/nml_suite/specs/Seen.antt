@@ -1,19 +1,7 @@
--- The form that a command is, and the stop of a run.
+-- The stop of a run.
 use Rattle.plain_tools.specs.Machine as machine
-use Rattle.nml_suite.specs.declared.command.Command.{Command}
-use Rattle.nml_suite.specs.declared.command.Command.TheVariants as commands
 use Rattle.nml_suite.specs.declared.stop.Stop.{Stop}
 use Rattle.nml_suite.specs.declared.stop.Stop.TheVariants as stops
-use Rattle.nml_suite.specs.Form.{Form, Check, Asm, Dis, Run, Cc, Ceval, Demo}
-
-abbrev pub seen : Command → Form
-seen (commands.Check d) = Check d.now
-seen (commands.Asm d s i) = Asm d.now s.now i.now
-seen (commands.Dis d i) = Dis d.now i.now
-seen (commands.Run d i x n) = Run d.now i.now x.now n
-seen (commands.Cc d c i) = Cc d.now c.now i.now
-seen (commands.Ceval d c x n) = Ceval d.now c.now x.now n
-seen (commands.Demo k) = Demo k
 
 abbrev pub stop_of : Stop → machine.Stop
 stop_of stops.Running = machine.Running

@@ -2,7 +2,7 @@ ghost use Rattle.std.specs.Prelude.{◌≡◌, ℕ, List, [], ◌∷◌, Option}
 ghost use Rattle.nml_suite.specs.Coming.{RunComesTo};
 ghost use Rattle.nml_suite.specs.Complete.{Answering, AllAnswer, ComesOut};
 ghost use Rattle.nml_suite.specs.Composed.{Makes, IsBlank, RunsText};
-ghost use Rattle.nml_suite.specs.Form.{Form};
+ghost use Rattle.nml_command.specs.Form.{Form};
 ghost use Rattle.nml_suite.specs.Reading.{Got};
 ghost use Rattle.nml_suite.specs.Work.{Work, Written};
 

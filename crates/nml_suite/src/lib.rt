@@ -4,7 +4,6 @@
 mod arguments;
 mod assemble;
 mod ceval;
-mod command;
 mod describe;
 mod evaluate;
 mod law;

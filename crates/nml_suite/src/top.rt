@@ -1,6 +1,6 @@
 ghost use Rattle.std.specs.Prelude.{Some};
 ghost use Rattle.nml_suite.specs.Answer.{Answers, moment};
-ghost use Rattle.nml_suite.specs.Form.{form_of, Asm, Ceval, Check, Run};
+ghost use Rattle.nml_command.specs.Form.{form_of, Asm, Ceval, Check, Run};
 ghost use Rattle.nml_suite.specs.Promises.{KeepsPromises};
 ghost use Rattle.nml_suite.specs.Reply.{not_built};
 ghost use Rattle.nml_suite.specs.Told.{Told};
@@ -8,7 +8,6 @@ ghost use Rattle.nml_suite.specs.Told.{Told};
 use crate::Status;
 use crate::assemble::{assemble, save};
 use crate::ceval::prepare_program;
-use crate::command::{Command, command_of};
 use crate::evaluate::tell_outcome;
 use crate::ready::prepare;
 use crate::run::tell_run;
@@ -16,6 +15,7 @@ use crate::summary::sum_up_file;
 use crate::tell::{tell, tell_assembled, tell_refusal, tell_summary};
 use nk_base::Text;
 use nk_outside::{Files, Sink};
+use nml_command::{Command, command_of};
 use std::alloc::Global;
 
 /// Where the words match no form.

@@ -3,9 +3,9 @@ ghost use Rattle.std.specs.Char.{is_ascii_digit};
 ghost use Rattle.std.specs.List.{AllPass, list_all};
 ghost use Rattle.std.specs.Option.{option_map};
 ghost use Rattle.std.specs.Str.Parse.{digits_value};
-ghost use Rattle.nml_suite.specs.Form.{form_of, is_count};
-ghost use Rattle.nml_suite.specs.Form as spec;
-ghost use Rattle.nml_suite.specs.Seen.{seen};
+ghost use Rattle.nml_command.specs.Form.{form_of, is_count};
+ghost use Rattle.nml_command.specs.Form as spec;
+ghost use Rattle.nml_command.specs.Seen.{seen};
 
 use nk_base::{Text, number_of_digits};
 

@@ -1,0 +1,6 @@
+//! The words of a call, told apart.
+#![tactic(auto)]
+
+mod command;
+
+pub use command::{Command, command_of};
