@@ -1,5 +1,5 @@
 -- How the steps of a command are put together: the first files lead to what the rest comes to.
-use Rattle.std.proofs.Common.{Some, ◌≡◌, ◌⊎◌, inl, inr, ℕ, List, [], ◌∷◌, ◌++◌, ℤ, None, Result, Ok, Err, refl, sym, ap, subst, append_assoc}
+use Rattle.std.proofs.Common.{Some, ◌≡◌, ◌⊎◌, inl, inr, ℕ, List, [], ◌∷◌, ◌++◌, ℤ, None, Result, Ok, Err, refl, sym, ap, subst, append_assoc, true, false}
 use Rattle.plain_tree.specs.Description.{Description}
 use Rattle.image_file.specs.Seen.{picture_of}
 use Rattle.image_file.specs.declared.image.Image.{Image}
@@ -82,11 +82,11 @@ not_opened b n name names goes e u = record {
 -- ---- a description
 
 pub described : (b : Store) (names : List (List ℕ)) (name bytes : List ℕ) (d : Description) (goes : Description → List Asked → Work → Type 0)
-    → Describes bytes d → Arrives b b names names (Accepts name bytes (λ tree. Simplifies name tree goes)) (goes d)
+    → Describes bytes d → Arrives b b names names (Accepts false name bytes (λ tree. Simplifies name tree goes)) (goes d)
 described b names name bytes d goes h = on b names _ (goes d) (λ more w g. Accepted h.tree h.accepted (Plain d h.built g))
 
 pub not_described : (b : Store) (names : List (List ℕ)) (name bytes : List ℕ) (e : Refusal) (goes : Description → List Asked → Work → Type 0)
-    → IsDescribed name bytes (Err e) → Settles b b names (Accepts name bytes (λ tree. Simplifies name tree goes)) (telling (refused e))
+    → IsDescribed name bytes (Err e) → Settles b b names (Accepts false name bytes (λ tree. Simplifies name tree goes)) (telling (refused e))
 not_described b names name bytes e goes (inl wants) = here b names _ _ (inr (ap telling wants))
 not_described b names name bytes e goes (inr (inl x)) = here b names _ _ (inl (Faulty x.fault x.faulty (record { last = refl; is = ap telling x.is })))
 not_described b names name bytes e goes (inr (inr x)) =
@@ -95,12 +95,12 @@ not_described b names name bytes e goes (inr (inr x)) =
 -- ---- `check`
 
 pub not_accepted : (b : Store) (names : List (List ℕ)) (name bytes : List ℕ) (e : Refusal) (goes : Desc → List Asked → Work → Type 0)
-    → IsReadAs name bytes (Err e) → Settles b b names (Accepts name bytes goes) (telling (refused e))
+    → IsReadAs true name bytes (Err e) → Settles b b names (Accepts true name bytes goes) (telling (refused e))
 not_accepted b names name bytes e goes (inl wants) = here b names _ _ (inr (ap telling wants))
 not_accepted b names name bytes e goes (inr x) = here b names _ _ (inl (Faulty x.fault x.faulty (record { last = refl; is = ap telling x.is })))
 
-pub summed_up : (b : Store) (name bytes : List ℕ) (tree : Desc) (r : Result Summary Refusal) → IsAccepted bytes tree → IsSummedUp tree r
-    → Settles b b [] (Accepts name bytes SumsUp) (summed r)
+pub summed_up : (b : Store) (name bytes : List ℕ) (tree : Desc) (r : Result Summary Refusal) → IsAccepted true bytes tree → IsSummedUp tree r
+    → Settles b b [] (Accepts true name bytes SumsUp) (summed r)
 summed_up b name bytes tree (Ok s) a h = here b [] _ _ (inl (Accepted tree a (Summed s.count s.width h (record { last = refl; is = refl }))))
 summed_up b name bytes tree (Err e) a h = here b [] _ _ (inr (ap telling h))
 
@@ -136,8 +136,8 @@ not_blank b x steps d words text e h = here b [] _ _ (inl (Input h.0 h.1 (record
 
 -- ---- `ceval`
 
-pub accepted : (b : Store) (names : List (List ℕ)) (name bytes : List ℕ) (tree : Desc) (goes : Desc → List Asked → Work → Type 0) → IsAccepted bytes tree
-    → Arrives b b names names (Accepts name bytes goes) (goes tree)
+pub accepted : (b : Store) (names : List (List ℕ)) (name bytes : List ℕ) (tree : Desc) (goes : Desc → List Asked → Work → Type 0) → IsAccepted true bytes tree
+    → Arrives b b names names (Accepts true name bytes goes) (goes tree)
 accepted b names name bytes tree goes a = on b names _ (goes tree) (λ more w g. Accepted tree a g)
 
 pub targeted : (b : Store) (names : List (List ℕ)) (name : List ℕ) (tree : Desc) (n : ℕ) (goes : ℕ → List Asked → Work → Type 0) → target tree ≡ Ok n

@@ -1,6 +1,6 @@
 -- When each answer of the top call comes, from what it answers.
 use Rattle.std.proofs.Common.{◌≡◌, ◌⊎◌, ◌≤◌, ◌+◌, ℕ, zero, suc, List, [], ◌∷◌, ℤ, Ok, length, Option, Some, None, refl, sym, ap, ◌∙◌, subst, inl, inr, arith}
-use Rattle.std.specs.Prelude.{slice_get}
+use Rattle.std.specs.Prelude.{slice_get, true, false}
 use Rattle.nk_outside.specs.Held.{Reads}
 use Rattle.nk_outside.specs.Taken.{Took}
 use Rattle.plain_tree.specs.Description.{Description}
@@ -10,7 +10,7 @@ use Rattle.plain_tools.specs.Machine.{Stop, Running, Halted, NoWord, BadWord}
 use Rattle.plain_tools.specs.Machine as machine
 use Rattle.plain_tools.specs.PlainText.{lines}
 use Rattle.nml_suite.specs.Answer.{Moment, Answers}
-use Rattle.nml_suite.specs.Cause.{HasCause, HasBytes, HasDescription, HasOtherDescription, HasMachine, HasImage, HasTree, HasSource, HasProgram, outcome_of, IsNotBuilt, Command, Assembled, Text, Machine, Image, IsUsage}
+use Rattle.nml_suite.specs.Cause.{HasCause, is_whole, HasBytes, HasDescription, HasOtherDescription, HasMachine, HasImage, HasTree, HasSource, HasProgram, outcome_of, IsNotBuilt, Command, Assembled, Text, Machine, Image, IsUsage}
 use Rattle.nml_suite.specs.Coming.{EndsWith, SumsUp, Summed, Opens, Short, Opened, Accepts, Faulty, Accepted, Simplifies, Other, Plain, AssemblesTo, NotPlain, NoMatch, Words, Loads, NoImage, Loaded, RunsTo, Input, Ran, IsImageOf, Targets, NoTarget, Targeted, Compiles, FaultyProgram, SoundProgram, EvaluatesTo, BadNumber, Evaluated, CheckComesTo, AsmComesTo, RunComesTo, CevalComesTo, ComesTo, first_input}
 use Rattle.nml_suite.specs.Described.{IsAccepted}
 use Rattle.nml_suite.specs.Files.{HaveCauses, Leaves}
@@ -70,12 +70,12 @@ opens_owe b n form k name goes xs w named calls c h (Opened bytes more e g) =
     h bytes more d.0 (fewer b n k (name, Got bytes) more w m) d.1 g
 
 accepts_owe : (b n : Moment) (form : Option Form) (f : HasBytes b form 0) (goes : Desc → List Asked → Work → Type 0) (xs : List Asked) (w : Work)
-    → ((tree : Desc) → IsAccepted f.bytes tree → goes tree xs w → Owes b n form w.reply) → Accepts f.name f.bytes goes xs w → Owes b n form w.reply
+    → ((tree : Desc) → IsAccepted (is_whole form) f.bytes tree → goes tree xs w → Owes b n form w.reply) → Accepts (is_whole form) f.name f.bytes goes xs w → Owes b n form w.reply
 accepts_owe b n form f goes xs w h (Faulty fault x e) = ends_owe b n form xs w _ e (λ t. record { file = f; fault = fault; faulty = x; told = t })
 accepts_owe b n form f goes xs w h (Accepted tree a g) = h tree a g
 
 simplifies_owe : (b n : Moment) (form : Option Form) (f : HasBytes b form 0) (tree : Desc) (goes : Description → List Asked → Work → Type 0) (xs : List Asked) (w : Work)
-    → IsAccepted f.bytes tree → (HasOtherDescription b n form → IsNotBuilt b n form)
+    → IsAccepted false f.bytes tree → (HasOtherDescription b n form → IsNotBuilt b n form)
     → ((d : HasDescription b form) → d.file ≡ f → goes d.plain xs w → Owes b n form w.reply)
     → Simplifies f.name tree goes xs w → Owes b n form w.reply
 simplifies_owe b n form f tree goes xs w a row h (Other none e) = ends_owe b n form xs w _ e (λ t. row (record { file = f; tree = tree; accepted = a; none = none; told = t }))
@@ -84,7 +84,7 @@ simplifies_owe b n form f tree goes xs w a row h (Plain d built g) =
 
 -- ---- `check`
 
-sums_owe : (b n : Moment) (d : List ℕ) (f : HasBytes b (Some (Check d)) 0) (tree : Desc) (xs : List Asked) (w : Work) → IsAccepted f.bytes tree → SumsUp tree xs w
+sums_owe : (b n : Moment) (d : List ℕ) (f : HasBytes b (Some (Check d)) 0) (tree : Desc) (xs : List Asked) (w : Work) → IsAccepted true f.bytes tree → SumsUp tree xs w
     → Owes b n (Some (Check d)) w.reply
 sums_owe b n d f tree xs w a (Summed count width s e) =
     ends_owe b n (Some (Check d)) xs w _ e (λ t. inr (inr (inl (record { check = tt; file = f; tree = tree; is = a; count = count; width = width; summary = s; told = t }))))

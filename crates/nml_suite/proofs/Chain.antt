@@ -1,5 +1,5 @@
 -- What holds of each work that words come to, step by step.
-use Rattle.std.proofs.Common.{◌≡◌, ℕ, List, [], ◌∷◌, Option, Some, None, sym, ap, subst}
+use Rattle.std.proofs.Common.{◌≡◌, ℕ, List, [], ◌∷◌, Option, Some, None, sym, ap, subst, Bool}
 use Rattle.plain_tree.specs.Description.{Description}
 use Rattle.nml_tree.specs.declared.tree.Desc.{Desc}
 use Rattle.nml_suite.specs.Coming.{EndsWith, SumsUp, Summed, Opens, Short, Opened, Accepts, Faulty, Accepted, Simplifies, Other, Plain, AssemblesTo, NotPlain, NoMatch, Words, Loads, NoImage, Loaded, RunsTo, Input, Ran, Targets, NoTarget, Targeted, Compiles, FaultyProgram, SoundProgram, EvaluatesTo, BadNumber, Evaluated, ComesTo}
@@ -40,8 +40,8 @@ opens_sound name goes xs w h (Short r e short is) =
 opens_sound name goes xs w h (Opened bytes more e g) =
     let s = h bytes more g in record { told = subst NoneUnread (sym e) (λ u. absurd (cc u), s.told); done = s.done }
 
-accepts_sound : (name bytes : List ℕ) (goes : Desc → List Asked → Work → Type 0) (xs : List Asked) (w : Work) → ((tree : Desc) → goes tree xs w → IsSound xs w)
-    → Accepts name bytes goes xs w → IsSound xs w
+accepts_sound : {whole : Bool} (name bytes : List ℕ) (goes : Desc → List Asked → Work → Type 0) (xs : List Asked) (w : Work) → ((tree : Desc) → goes tree xs w → IsSound xs w)
+    → Accepts whole name bytes goes xs w → IsSound xs w
 accepts_sound name bytes goes xs w h (Faulty fault x e) = ends_sound _ xs w e
 accepts_sound name bytes goes xs w h (Accepted tree a g) = h tree g
 

@@ -1,6 +1,6 @@
 -- The two commands compose.
 use Rattle.std.proofs.Common.{◌≡◌, ℕ, List, [], ◌∷◌, Some, refl, sym, ap, ◌∙◌, subst}
-use Rattle.std.specs.Prelude.{IsTrue}
+use Rattle.std.specs.Prelude.{IsTrue, false}
 use Rattle.plain_tree.specs.Description.{Description}
 use Rattle.plain_tree.specs.PlainTree.{IsPlainTree}
 use Rattle.nml_tree.specs.declared.tree.Desc.{Desc}
@@ -74,14 +74,14 @@ text_is s i bytes d text xs w f t (Words a words l last e) is =
       is = ap (λ (k : Written). k.bytes) (sym p);
     }
 
-plain_is : (name s i bytes text : List ℕ) (tree : Desc) (xs : List Asked) (w : Work) (f : Written) → IsAccepted bytes tree
+plain_is : (name s i bytes text : List ℕ) (tree : Desc) (xs : List Asked) (w : Work) (f : Written) → IsAccepted false bytes tree
     → Simplifies name tree (λ d. Opens s (AssemblesTo s i bytes d)) ((s, Got text) ∷ xs) w → w.file ≡ Some f → IsOf bytes text f
 plain_is name s i bytes text tree xs w f a (Other none e) is = ends_without _ _ w f e is
 plain_is name s i bytes text tree xs w f a (Plain d built g) is =
     text_is s i bytes d text xs w f (record { tree = tree; accepted = a; built = built }) (goes_on s text xs _ w g) is
 
 bytes_are : (name s i bytes text : List ℕ) (xs : List Asked) (w : Work) (f : Written)
-    → Accepts name bytes (λ tree. Simplifies name tree (λ d. Opens s (AssemblesTo s i bytes d))) ((s, Got text) ∷ xs) w → w.file ≡ Some f → IsOf bytes text f
+    → Accepts false name bytes (λ tree. Simplifies name tree (λ d. Opens s (AssemblesTo s i bytes d))) ((s, Got text) ∷ xs) w → w.file ≡ Some f → IsOf bytes text f
 bytes_are name s i bytes text xs w f (Faulty g h e) is = ends_without _ _ w f e is
 bytes_are name s i bytes text xs w f (Accepted tree a g) is = plain_is name s i bytes text tree xs w f a g is
 
@@ -141,9 +141,9 @@ machine_is d i x steps bytes text entry tree f w o blank e (Plain p built g) =
     (subst (λ q. Loads i bytes q f.bytes (λ words. Opens x (RunsTo x steps q words)) ((x, Got entry) ∷ []) w) same (goes_on i f.bytes _ _ w g))
 
 accepted_is : (d i x : List ℕ) (steps : ℕ) (bytes text entry : List ℕ) (f : Written) (w : Work) (o : IsOf bytes text f) → IsBlank entry
-    → Accepts d bytes (λ tree. Simplifies d tree (λ p. Opens i (λ bits. Loads i bytes p bits (λ words. Opens x (RunsTo x steps p words)))))
+    → Accepts false d bytes (λ tree. Simplifies d tree (λ p. Opens i (λ bits. Loads i bytes p bits (λ words. Opens x (RunsTo x steps p words)))))
     ((i, Got f.bytes) ∷ (x, Got entry) ∷ []) w → RunsText bytes text steps w
-accepted_is d i x steps bytes text entry f w o blank (Faulty g h e) = absurd (no_fault bytes o.described.tree g o.described.accepted h)
+accepted_is d i x steps bytes text entry f w o blank (Faulty g h e) = absurd (no_fault false bytes o.described.tree g o.described.accepted h)
 accepted_is d i x steps bytes text entry f w o blank (Accepted tree a g) =
     machine_is d i x steps bytes text entry tree f w o blank (one_accepted bytes tree o.described.tree a o.described.accepted) g
 

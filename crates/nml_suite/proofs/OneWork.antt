@@ -1,5 +1,5 @@
 -- However the reads are answered, words come to one thing alone.
-use Rattle.std.proofs.Common.{◌≡◌, ℕ, suc, List, [], ◌∷◌, Option, Some, None, refl, sym, ap, ◌∙◌, subst, arith}
+use Rattle.std.proofs.Common.{◌≡◌, ℕ, suc, List, [], ◌∷◌, Option, Some, None, refl, sym, ap, ◌∙◌, subst, arith, Bool, true, false}
 use Rattle.plain_tree.specs.Description.{Description}
 use Rattle.plain_tree.specs.IsPlain.{IsPlain}
 use Rattle.nml_tree.specs.declared.tree.Desc.{Desc}
@@ -56,13 +56,13 @@ opens_one answers k name goes went xs ys w v a b h (Opened bytes more e g) (Open
     let y : AreAnswered answers k ((name, Got text) ∷ other) = subst (AreAnswered answers k) f b in
     h text more other x.1 y.1 (subst (λ t. goes t more w) (same_bytes (x.0 ∙ sym y.0)) g) d
 
-accepts_one : (name bytes : List ℕ) (goes went : Desc → List Asked → Work → Type 0) (xs ys : List Asked) (w v : Work)
-    → ((tree : Desc) → IsAccepted bytes tree → goes tree xs w → went tree ys v → w ≡ v)
-    → Accepts name bytes goes xs w → Accepts name bytes went ys v → w ≡ v
-accepts_one name bytes goes went xs ys w v h (Faulty f x e) (Faulty g y i) = both_end _ _ xs ys w v (ap (description_fault name) (one_fault bytes f g x y)) e i
-accepts_one name bytes goes went xs ys w v h (Faulty f x e) (Accepted t a g) = absurd (no_fault bytes t f a x)
-accepts_one name bytes goes went xs ys w v h (Accepted t a g) (Faulty f x e) = absurd (no_fault bytes t f a x)
-accepts_one name bytes goes went xs ys w v h (Accepted t a g) (Accepted u b d) = h u b (subst (λ z. goes z xs w) (one_accepted bytes t u a b) g) d
+accepts_one : (whole : Bool) (name bytes : List ℕ) (goes went : Desc → List Asked → Work → Type 0) (xs ys : List Asked) (w v : Work)
+    → ((tree : Desc) → IsAccepted whole bytes tree → goes tree xs w → went tree ys v → w ≡ v)
+    → Accepts whole name bytes goes xs w → Accepts whole name bytes went ys v → w ≡ v
+accepts_one whole name bytes goes went xs ys w v h (Faulty f x e) (Faulty g y i) = both_end _ _ xs ys w v (ap (description_fault name) (one_fault whole bytes f g x y)) e i
+accepts_one whole name bytes goes went xs ys w v h (Faulty f x e) (Accepted t a g) = absurd (no_fault whole bytes t f a x)
+accepts_one whole name bytes goes went xs ys w v h (Accepted t a g) (Faulty f x e) = absurd (no_fault whole bytes t f a x)
+accepts_one whole name bytes goes went xs ys w v h (Accepted t a g) (Accepted u b d) = h u b (subst (λ z. goes z xs w) (one_accepted bytes t u a b) g) d
 
 simplifies_one : (name : List ℕ) (tree : Desc) (goes went : Description → List Asked → Work → Type 0) (xs ys : List Asked) (w v : Work)
     → ((d : Description) → IsPlain d → goes d xs w → went d ys v → w ≡ v)
@@ -153,14 +153,14 @@ comes_one : (answers : Answering) (form : Option Form) (xs ys : List Asked) (w v
 comes_one answers None xs ys w v a b x y = both_end _ _ xs ys w v refl x y
 comes_one answers (Some (Asm d s i)) xs ys w v a b x y =
     opens_one answers 0 d _ _ xs ys w v a b
-    (λ bytes more other c e. accepts_one d bytes _ _ more other w v
+    (λ bytes more other c e. accepts_one false d bytes _ _ more other w v
     (λ tree k. simplifies_one d tree _ _ more other w v
     (λ p plain. opens_one answers 1 s _ _ more other w v c e
     (λ text rest last f g. text_one s i bytes p text rest last w v (λ ts m n j l. same_word p ts m n plain j l)))))
     x y
 comes_one answers (Some (Run d i x n)) xs ys w v a b f g =
     opens_one answers 0 d _ _ xs ys w v a b
-    (λ bytes more other c e. accepts_one d bytes _ _ more other w v
+    (λ bytes more other c e. accepts_one false d bytes _ _ more other w v
     (λ tree k. simplifies_one d tree _ _ more other w v
     (λ p plain. opens_one answers 1 i _ _ more other w v c e
     (λ bits rest last h j. loads_one i bytes p bits _ _ rest last w v plain
@@ -168,12 +168,12 @@ comes_one answers (Some (Run d i x n)) xs ys w v a b f g =
     (λ text end stop l m. runs_one x n p words text end stop w v plain))))))
     f g
 comes_one answers (Some (Check d)) xs ys w v a b x y =
-    opens_one answers 0 d _ _ xs ys w v a b (λ bytes more other c e. accepts_one d bytes _ _ more other w v (λ tree k. sums_one tree more other w v)) x y
+    opens_one answers 0 d _ _ xs ys w v a b (λ bytes more other c e. accepts_one true d bytes _ _ more other w v (λ tree k. sums_one tree more other w v)) x y
 comes_one answers (Some (Dis d i)) xs ys w v a b x y = both_end _ _ xs ys w v refl x y
 comes_one answers (Some (Cc d s i)) xs ys w v a b x y = both_end _ _ xs ys w v refl x y
 comes_one answers (Some (Ceval d s x turns)) xs ys w v a b f g =
     opens_one answers 0 d _ _ xs ys w v a b
-    (λ bytes more other c e. accepts_one d bytes _ _ more other w v
+    (λ bytes more other c e. accepts_one true d bytes _ _ more other w v
     (λ tree k. targets_one d tree _ _ more other w v
     (λ n. opens_one answers 1 s _ _ more other w v c e
     (λ text rest last h j. compiles_one s text n _ _ rest last w v

@@ -15,10 +15,12 @@ use Rattle.plain_tools.proofs.HasOutcome.{has_outcome}
 use Rattle.plain_tools.proofs.Determined.{not_neither}
 use Rattle.nml_suite.specs.Coming.{EndsWith, SumsUp, Summed, Opens, Short, Opened, Accepts, Faulty, Accepted, Simplifies, Other, Plain, AssemblesTo, NotPlain, NoMatch, Words, Loads, NoImage, Loaded, RunsTo, Input, Ran, Targets, NoTarget, Targeted, Compiles, FaultyProgram, SoundProgram, EvaluatesTo, BadNumber, Evaluated, ComesTo, first_input, made}
 use Rattle.nml_suite.specs.Complete.{Answering, AllAnswer, AreAnswered, ComesOut}
+use Rattle.nml_types.proofs.Refusals.{typed_if_none}
 use Rattle.nml_refusals.proofs.TreeFaults.{checked_if_none}
+use Rattle.nml_tree.specs.declared.fault.DescFault.{DescFault}
 use Rattle.nml_refusals.proofs.Told.{told, some_summary}
 use Rattle.nml_tree.specs.Refused.{IsChecked}
-use Rattle.nml_suite.specs.Described.{Spells, NoTokens, NoTree, Floating, Refused, IsAccepted, IsBuilt}
+use Rattle.nml_suite.specs.Described.{IsFaultOf, IsRight, Spells, NoTokens, NoTree, Floating, Refused, IsAccepted, IsBuilt}
 use Rattle.nml_target.specs.Target.{target}
 use Rattle.nml_target.specs.declared.width.Lacking.{Lacking}
 use Rattle.input_lines.specs.Input.{numbers}
@@ -58,23 +60,27 @@ opens : (answers : Answering) (k : ℕ) (name : List ℕ) (goes : List ℕ → L
     → ((bytes : List ℕ) → Comes answers (suc k) (goes bytes)) → Comes answers k (Opens name goes)
 opens answers k name goes all h = opens_by answers k name goes (answers k name) refl (all k name) h
 
-accepts_tree : (answers : Answering) (k : ℕ) (name bytes : List ℕ) (goes : Desc → List Asked → Work → Type 0) (tree : Desc) → IsTree bytes tree
-    → ((tree : Desc) → IsAccepted bytes tree → Comes answers k (goes tree)) → (float_places tree ≡ []) ⊎ ((at : ℕ) × IsFloat bytes at) → Comes answers k (Accepts name bytes goes)
-accepts_tree answers k name bytes goes tree is h (inl clear) none =
+right_if_none : (whole : Bool) (tree : Desc) → ((f : DescFault) → IsFaultOf whole tree f → ⊥) → IsRight whole tree
+right_if_none true tree none = checked_if_none tree (told tree) none
+right_if_none false tree none = typed_if_none tree none
+
+accepts_tree : (whole : Bool) (answers : Answering) (k : ℕ) (name bytes : List ℕ) (goes : Desc → List Asked → Work → Type 0) (tree : Desc) → IsTree bytes tree
+    → ((tree : Desc) → IsAccepted whole bytes tree → Comes answers k (goes tree)) → (float_places tree ≡ []) ⊎ ((at : ℕ) × IsFloat bytes at) → Comes answers k (Accepts whole name bytes goes)
+accepts_tree whole answers k name bytes goes tree is h (inl clear) none =
     let spelled : Spells bytes tree = record { is = is; no_float = clear } in
-    let checked = checked_if_none tree (told tree) (λ f x. none [] _ tt (Faulty f (Refused tree spelled x) (record { last = refl; is = refl }))) in
-    let accepted : IsAccepted bytes tree = record { spelled = spelled; checked = checked } in
+    let right = right_if_none whole tree (λ f x. none [] _ tt (Faulty f (Refused tree spelled x) (record { last = refl; is = refl }))) in
+    let accepted : IsAccepted whole bytes tree = record { spelled = spelled; right = right } in
     h tree accepted (λ asked work a g. none asked work a (Accepted tree accepted g))
-accepts_tree answers k name bytes goes tree is h (inr float) none = none [] _ tt (Faulty (faults.Float float.0) (Floating float.0 refl float.1) (record { last = refl; is = refl }))
+accepts_tree whole answers k name bytes goes tree is h (inr float) none = none [] _ tt (Faulty (faults.Float float.0) (Floating float.0 refl float.1) (record { last = refl; is = refl }))
 
-accepts_by : (answers : Answering) (k : ℕ) (name bytes : List ℕ) (goes : Desc → List Asked → Work → Type 0) → ((tree : Desc) → IsAccepted bytes tree → Comes answers k (goes tree))
-    → ((d : Desc) × IsTree bytes d) ⊎ (((at : ℕ) × HasNoTree bytes at) ⊎ ((at : ℕ) × IsStuckAt bytes at)) → Comes answers k (Accepts name bytes goes)
-accepts_by answers k name bytes goes h (inl x) none = accepts_tree answers k name bytes goes x.0 x.1 h (some_float bytes x.0 x.1) none
-accepts_by answers k name bytes goes h (inr (inl x)) none = none [] _ tt (Faulty (faults.Syntax x.0) (NoTree x.0 refl x.1) (record { last = refl; is = refl }))
-accepts_by answers k name bytes goes h (inr (inr x)) none = none [] _ tt (Faulty (faults.Lex x.0) (NoTokens x.0 refl x.1) (record { last = refl; is = refl }))
+accepts_by : (whole : Bool) (answers : Answering) (k : ℕ) (name bytes : List ℕ) (goes : Desc → List Asked → Work → Type 0) → ((tree : Desc) → IsAccepted whole bytes tree → Comes answers k (goes tree))
+    → ((d : Desc) × IsTree bytes d) ⊎ (((at : ℕ) × HasNoTree bytes at) ⊎ ((at : ℕ) × IsStuckAt bytes at)) → Comes answers k (Accepts whole name bytes goes)
+accepts_by whole answers k name bytes goes h (inl x) none = accepts_tree whole answers k name bytes goes x.0 x.1 h (some_float bytes x.0 x.1) none
+accepts_by whole answers k name bytes goes h (inr (inl x)) none = none [] _ tt (Faulty (faults.Syntax x.0) (NoTree x.0 refl x.1) (record { last = refl; is = refl }))
+accepts_by whole answers k name bytes goes h (inr (inr x)) none = none [] _ tt (Faulty (faults.Lex x.0) (NoTokens x.0 refl x.1) (record { last = refl; is = refl }))
 
-accepts : (answers : Answering) (k : ℕ) (name bytes : List ℕ) (goes : Desc → List Asked → Work → Type 0) → ((tree : Desc) → IsAccepted bytes tree → Comes answers k (goes tree)) → Comes answers k (Accepts name bytes goes)
-accepts answers k name bytes goes h = accepts_by answers k name bytes goes h (some_tree bytes)
+accepts : (whole : Bool) (answers : Answering) (k : ℕ) (name bytes : List ℕ) (goes : Desc → List Asked → Work → Type 0) → ((tree : Desc) → IsAccepted whole bytes tree → Comes answers k (goes tree)) → Comes answers k (Accepts whole name bytes goes)
+accepts whole answers k name bytes goes h = accepts_by whole answers k name bytes goes h (some_tree bytes)
 
 simplifies : (answers : Answering) (k : ℕ) (name : List ℕ) (tree : Desc) (goes : Description → List Asked → Work → Type 0)
     → ((d : Description) → IsBuilt tree d → Comes answers k (goes d)) → Comes answers k (Simplifies name tree goes)
@@ -139,22 +145,22 @@ comes : (answers : Answering) (form : Option Form) → AllAnswer answers → Com
 comes answers None all = ends answers 0 _
 comes answers (Some (Asm d s i)) all =
     opens answers 0 d _ all
-    (λ bytes. accepts answers 1 d bytes _
+    (λ bytes. accepts false answers 1 d bytes _
     (λ tree a. simplifies answers 1 d tree _
     (λ p built. opens answers 1 s _ all (λ text. text_by answers 2 s i bytes p text (is_fit p text) refl))))
 comes answers (Some (Run d i x n)) all =
     opens answers 0 d _ all
-    (λ bytes. accepts answers 1 d bytes _
+    (λ bytes. accepts false answers 1 d bytes _
     (λ tree a. simplifies answers 1 d tree _
     (λ p built. opens answers 1 i _ all
     (λ bits. loads answers 2 i bytes p bits _
     (λ words. opens answers 2 x _ all (λ text. runs_by answers 3 x n p words text (first_input 1 (lines text)) refl (has_outcome p words n (beginning p) built.plain.plain)))))))
-comes answers (Some (Check d)) all = opens answers 0 d _ all (λ bytes. accepts answers 1 d bytes _ (λ tree a. sums_up answers 1 tree a.checked))
+comes answers (Some (Check d)) all = opens answers 0 d _ all (λ bytes. accepts true answers 1 d bytes _ (λ tree a. sums_up answers 1 tree a.right))
 comes answers (Some (Dis d i)) all = ends answers 0 _
 comes answers (Some (Cc d s i)) all = ends answers 0 _
 comes answers (Some (Ceval d s x turns)) all =
     opens answers 0 d _ all
-    (λ bytes. accepts answers 1 d bytes _
+    (λ bytes. accepts true answers 1 d bytes _
     (λ tree a. targets_by answers 1 d tree _ (target tree) refl
     (λ n. opens answers 1 s _ all
     (λ text. compiles_by answers 2 s text n _

@@ -1,5 +1,5 @@
 -- When each answer comes, and what was told with it.
-use Rattle.std.specs.Prelude.{◌≡◌, ◌⊎◌, ℕ, suc, ◌+◌, ◌≤◌, List, ℤ, Ok, Err, Option, Some, None, slice_get, IsTrue, IsFalse}
+use Rattle.std.specs.Prelude.{◌≡◌, ◌⊎◌, ℕ, suc, ◌+◌, ◌≤◌, List, ℤ, Ok, Err, Option, Some, None, slice_get, IsTrue, IsFalse, Bool, true, false}
 use Rattle.nk_outside.specs.Count.{Rose}
 use Rattle.nk_outside.specs.Held.{Reads, Lacks, IsTooLong}
 use Rattle.nk_outside.specs.Taken.{Took}
@@ -70,18 +70,24 @@ pub record HasBytes (before : Moment) (form : Option Form) (place : ℕ) : Type 
 
 -- ---- the description, which is named first
 
+-- whether the description is looked at as a whole: `asm` and `run` ask for names, types and widths alone
+abbrev pub is_whole : Option Form → Bool
+is_whole (Some (Asm d s i)) = false
+is_whole (Some (Run d i x n)) = false
+is_whole _ = true
+
 -- its bytes have the fault that is told
 pub record HasFaultyDescription (before now : Moment) (form : Option Form) : Type 0 where
   pub file : HasBytes before form 0
   pub fault : DescFault
-  pub faulty : HasFault file.bytes fault
+  pub faulty : HasFault (is_whole form) file.bytes fault
   pub told : Took before.taken now.taken (description_fault file.name fault).text
 
 -- its bytes are accepted, and are no plain description that is built
 pub record HasOtherDescription (before now : Moment) (form : Option Form) : Type 0 where
   pub file : HasBytes before form 0
   pub tree : Desc
-  pub accepted : IsAccepted file.bytes tree
+  pub accepted : IsAccepted false file.bytes tree
   pub none : (d : Description) → IsBuilt tree d → ⊥
   pub told : Took before.taken now.taken (not_built_file file.name).text
 
@@ -131,7 +137,7 @@ pub record HasSummary (before now : Moment) (form : Option Form) : Type 0 where
   pub check : IsCheck form
   pub file : HasBytes before form 0
   pub tree : Desc
-  pub is : IsAccepted file.bytes tree
+  pub is : IsAccepted true file.bytes tree
   pub count : ℕ
   pub width : ℕ
   pub summary : IsSummary (table tree) count width
@@ -225,7 +231,7 @@ pub record HasTree (before : Moment) (form : Option Form) : Type 0 where
   pub ceval : IsCeval turns form
   pub file : HasBytes before form 0
   pub tree : Desc
-  pub is : IsAccepted file.bytes tree
+  pub is : IsAccepted true file.bytes tree
 
 -- it lacks what is told
 pub record HasNoTarget (before now : Moment) (form : Option Form) : Type 0 where

@@ -1,6 +1,6 @@
 -- What a call comes to, by the words and what each read answered: the files in the order of the words, each with its own refusals.
 -- Each step takes what was asked for, in order, and goes on with the rest of it; at the end nothing more is asked for.
-use Rattle.std.specs.Prelude.{◌≡◌, ℕ, ◌+◌, ◌^◌, List, [], ◌∷◌, ℤ, Ok, Err, Option, Some, None, IsTrue, IsFalse, if◌then◌else◌}
+use Rattle.std.specs.Prelude.{◌≡◌, ℕ, ◌+◌, ◌^◌, List, [], ◌∷◌, ℤ, Ok, Err, Option, Some, None, IsTrue, IsFalse, if◌then◌else◌, Bool, true, false}
 use Rattle.std.specs.List.{list_all}
 use Rattle.sha2.specs.Sha256.{sha256}
 use Rattle.nk_base.specs.Byte.{is_blank}
@@ -44,9 +44,9 @@ pub data Opens (name : List ℕ) (goes : List ℕ → List Asked → Work → Ty
   Opened : (bytes : List ℕ) (more : List Asked) → asked ≡ (name, Got bytes) ∷ more → goes bytes more work → Opens name goes asked work
 
 -- Bytes are looked at as a description: where they have a fault the call ends with that, else it goes on with the tree.
-pub data Accepts (name bytes : List ℕ) (goes : Desc → List Asked → Work → Type 0) (asked : List Asked) (work : Work) : Type 0 where
-  Faulty : (fault : DescFault) → HasFault bytes fault → EndsWith (description_fault name fault) asked work → Accepts name bytes goes asked work
-  Accepted : (tree : Desc) → IsAccepted bytes tree → goes tree asked work → Accepts name bytes goes asked work
+pub data Accepts (whole : Bool) (name bytes : List ℕ) (goes : Desc → List Asked → Work → Type 0) (asked : List Asked) (work : Work) : Type 0 where
+  Faulty : (fault : DescFault) → HasFault whole bytes fault → EndsWith (description_fault name fault) asked work → Accepts whole name bytes goes asked work
+  Accepted : (tree : Desc) → IsAccepted whole bytes tree → goes tree asked work → Accepts whole name bytes goes asked work
 
 -- A tree is looked at as a plain description: where it is none that is built the call ends with that, else it goes on with it.
 pub data Simplifies (name : List ℕ) (tree : Desc) (goes : Description → List Asked → Work → Type 0) (asked : List Asked) (work : Work) : Type 0 where
@@ -61,7 +61,7 @@ pub data SumsUp (tree : Desc) (asked : List Asked) (work : Work) : Type 0 where
 
 -- what `check` comes to
 abbrev pub CheckComesTo : List ℕ → List Asked → Work → Type 0
-CheckComesTo description = Opens description (λ bytes. Accepts description bytes SumsUp)
+CheckComesTo description = Opens description (λ bytes. Accepts true description bytes SumsUp)
 
 -- ---- `asm`
 
@@ -89,7 +89,7 @@ pub data AssemblesTo (source image bytes : List ℕ) (d : Description) (text : L
 abbrev pub AsmComesTo : List ℕ → List ℕ → List ℕ → List Asked → Work → Type 0
 AsmComesTo description source image =
     Opens description
-    (λ bytes. Accepts description bytes
+    (λ bytes. Accepts false description bytes
     (λ tree. Simplifies description tree
     (λ d. Opens source (AssemblesTo source image bytes d))))
 
@@ -120,7 +120,7 @@ pub data RunsTo (input : List ℕ) (steps : ℕ) (d : Description) (words text :
 abbrev pub RunComesTo : List ℕ → List ℕ → List ℕ → ℕ → List Asked → Work → Type 0
 RunComesTo description image input steps =
     Opens description
-    (λ bytes. Accepts description bytes
+    (λ bytes. Accepts false description bytes
     (λ tree. Simplifies description tree
     (λ d. Opens image
     (λ bits. Loads image bytes d bits
@@ -149,7 +149,7 @@ pub data EvaluatesTo (input : List ℕ) (turns n : ℕ) (tree : CTree) (text : L
 abbrev pub CevalComesTo : List ℕ → List ℕ → List ℕ → ℕ → List Asked → Work → Type 0
 CevalComesTo description source input turns =
     Opens description
-    (λ bytes. Accepts description bytes
+    (λ bytes. Accepts true description bytes
     (λ tree. Targets description tree
     (λ n. Opens source
     (λ text. Compiles source text n

@@ -1,5 +1,5 @@
 -- For private contracts: what a refusal tells, what a step of a command refuses, and what the reading of its files comes to.
-use Rattle.std.specs.Prelude.{◌≡◌, ◌⊎◌, ℕ, List, [], ◌∷◌, ◌++◌, ℤ, ◌≤◌, Some, None, Result, Ok, Err, IsTrue, IsFalse}
+use Rattle.std.specs.Prelude.{◌≡◌, ◌⊎◌, ℕ, List, [], ◌∷◌, ◌++◌, ℤ, ◌≤◌, Some, None, Result, Ok, Err, IsTrue, IsFalse, Bool, true, false}
 use Rattle.std.specs.Global.{Vec}
 use Rattle.plain_tree.specs.Description.{Description, description_of}
 use Rattle.plain_tree.specs.IsPlain.{word_width}
@@ -17,9 +17,7 @@ use Rattle.nk_outside.specs.Count.{Rose}
 use Rattle.nk_outside.specs.Held.{SameElsewhere}
 use Rattle.nml_suite.specs.Answer.{AreNamed}
 use Rattle.nml_suite.specs.Coming.{EndsWith, IsImageOf, RunComesTo, written_image, first_input}
-use Rattle.nml_tree.specs.Refused.{IsChecked}
 use Rattle.nml_tree.specs.Table.{table}
-use Rattle.nml_refusals.specs.TreeFault.{IsTreeFault}
 use Rattle.nml_types.specs.Summary.{IsSummary}
 use Rattle.nml_types.specs.declared.checking.Summary.{Summary}
 use Rattle.nml_target.specs.Target.{target}
@@ -34,7 +32,7 @@ use Rattle.c_tree.specs.Resolve.{resolved}
 use Rattle.c_grammar.specs.Trees.{IsTree}
 use Rattle.nml_suite.specs.Programs.{HasProgramFault, IsProgram}
 use Rattle.nml_suite.specs.declared.ceval.Prepared.{Prepared}
-use Rattle.nml_suite.specs.Described.{HasFault, Spells, IsAccepted, IsBuilt, Describes}
+use Rattle.nml_suite.specs.Described.{HasFault, IsFaultOf, IsRight, Spells, IsAccepted, IsBuilt, Describes}
 use Rattle.nml_suite.specs.Reading.{Store, Reading, Got, Absent, Failed, TooLong, IsShort, Asked, IsRead, AreRead}
 use Rattle.nml_suite.specs.Reply.{Reply, starved, unread, write_failed, description_fault, not_built_file, accepted, no_match, bad_input, assembled, told_run, no_target, program_fault, told_outcome}
 use Rattle.nml_suite.specs.Work.{Work, Written, telling, IsWriteCall, HasWritten}
@@ -92,31 +90,31 @@ IsLoaded before now name (Err refusal) = IsUnread before now name (refused refus
 -- ---- the description
 
 -- the bytes of this name have a fault
-pub record IsFaulty (name bytes : List ℕ) (told : Reply) : Type 0 where
+pub record IsFaulty (whole : Bool) (name bytes : List ℕ) (told : Reply) : Type 0 where
   pub fault : DescFault
-  pub faulty : HasFault bytes fault
+  pub faulty : HasFault whole bytes fault
   pub is : told ≡ description_fault name fault
 
 -- the bytes spell a tree, or they have a fault, or memory was wanted
-abbrev pub IsSpelledAs : List ℕ → List ℕ → Result Desc Refusal → Type 0
-IsSpelledAs name bytes (Ok tree) = Spells bytes tree
-IsSpelledAs name bytes (Err refusal) = Wants refusal ⊎ IsFaulty name bytes (refused refusal)
+abbrev pub IsSpelledAs : (whole : Bool) → List ℕ → List ℕ → Result Desc Refusal → Type 0
+IsSpelledAs whole name bytes (Ok tree) = Spells bytes tree
+IsSpelledAs whole name bytes (Err refusal) = Wants refusal ⊎ IsFaulty whole name bytes (refused refusal)
 
 -- the tree has a fault, which is told
-pub record IsRefusedTree (name : List ℕ) (tree : Desc) (told : Reply) : Type 0 where
+pub record IsRefusedTree (whole : Bool) (name : List ℕ) (tree : Desc) (told : Reply) : Type 0 where
   pub fault : DescFault
-  pub faulty : IsTreeFault tree fault
+  pub faulty : IsFaultOf whole tree fault
   pub is : told ≡ description_fault name fault
 
--- the tree has none of the faults N4 to N14, or it has one, or memory was wanted
-abbrev pub IsCheckedAs : List ℕ → Desc → Result Desc Refusal → Type 0
-IsCheckedAs name tree (Ok t) = (t ≡ tree) × IsChecked tree
-IsCheckedAs name tree (Err refusal) = Wants refusal ⊎ IsRefusedTree name tree (refused refusal)
+-- the tree is right, or it has a fault, or memory was wanted
+abbrev pub IsCheckedAs : (whole : Bool) → List ℕ → Desc → Result Desc Refusal → Type 0
+IsCheckedAs whole name tree (Ok t) = (t ≡ tree) × IsRight whole tree
+IsCheckedAs whole name tree (Err refusal) = Wants refusal ⊎ IsRefusedTree whole name tree (refused refusal)
 
 -- the bytes are accepted, or they have a fault, or memory was wanted
-abbrev pub IsReadAs : List ℕ → List ℕ → Result Desc Refusal → Type 0
-IsReadAs name bytes (Ok tree) = IsAccepted bytes tree
-IsReadAs name bytes (Err refusal) = Wants refusal ⊎ IsFaulty name bytes (refused refusal)
+abbrev pub IsReadAs : (whole : Bool) → List ℕ → List ℕ → Result Desc Refusal → Type 0
+IsReadAs whole name bytes (Ok tree) = IsAccepted whole bytes tree
+IsReadAs whole name bytes (Err refusal) = Wants refusal ⊎ IsFaulty whole name bytes (refused refusal)
 
 -- the tree is the description, or none that is built, or memory was wanted
 abbrev pub IsDescribedBy : List ℕ → Desc → Result Plain Refusal → Type 0
@@ -127,7 +125,7 @@ IsDescribedBy name tree (Err refusal) =
 -- the bytes are accepted, and are no plain description that is built
 pub record IsNoDescription (name bytes : List ℕ) (told : Reply) : Type 0 where
   pub tree : Desc
-  pub accepted : IsAccepted bytes tree
+  pub accepted : IsAccepted false bytes tree
   pub none : (d : Description) → IsBuilt tree d → ⊥
   pub is : told ≡ not_built_file name
 
@@ -135,7 +133,7 @@ pub record IsNoDescription (name bytes : List ℕ) (told : Reply) : Type 0 where
 abbrev pub IsDescribed : List ℕ → List ℕ → Result Plain Refusal → Type 0
 IsDescribed name bytes (Ok p) = Describes bytes (description_of p)
 IsDescribed name bytes (Err refusal) =
-    Wants refusal ⊎ (IsFaulty name bytes (refused refusal) ⊎ IsNoDescription name bytes (refused refusal))
+    Wants refusal ⊎ (IsFaulty false name bytes (refused refusal) ⊎ IsNoDescription name bytes (refused refusal))
 
 -- ---- `check`
 

@@ -176,7 +176,7 @@ row_assembles = (
 )
 
 -- where these bytes are the machine, its text comes to the image of three words, and to four lines
-first_row : (bytes : List ℕ) (tree : Desc) → IsAccepted bytes tree → IsPlainTree tree sample.running_machine
+first_row : (bytes : List ℕ) (tree : Desc) → IsAccepted false bytes tree → IsPlainTree tree sample.running_machine
     → AsmComesTo (codes "m1") (codes "s") (codes "i") ((codes "m1", Got bytes) ∷ (codes "s", Got text) ∷ [])
     (record {
       file = Some (record { name = codes "i"; bytes = file (picture bytes sample.running_machine row_words) });

@@ -1,4 +1,4 @@
-ghost use Rattle.std.specs.Prelude.{◌≡◌, ◌≤◌, length, IfOk, IfErr, IsTrue, IsFalse, if◌then◌else◌};
+ghost use Rattle.std.specs.Prelude.{Bool, true, false, ◌≡◌, ◌≤◌, length, IfOk, IfErr, IsTrue, IsFalse, if◌then◌else◌};
 ghost use Rattle.fault_texts.specs.FaultText as text;
 ghost use Rattle.nml_suite.specs.Described as spec;
 ghost use Rattle.nk_outside.specs.Held.{file_limit};
@@ -10,27 +10,47 @@ use crate::refusal::Refusal;
 use fault_texts::is_memory;
 use nk_base::{Memory, Text};
 use nml_read::read;
-use nml_tree::{Checked, Desc, DescFault};
-use nml_types::check;
+use nml_tree::{Checked, Desc, DescFault, Typed};
+use nml_types::{check, typed};
 use plain_tree::{Plain, plain_of};
 use std::alloc::Global;
 
-/// The description that the bytes of the named file spell, where it is one that is built. Bytes with a fault are refused first.
+/// The description that the bytes of the named file spell, where it is one that is built. Bytes with a fault of names, types or widths are
+/// refused first.
 pub fn describe<'a>(alloc: Global, name: &'a Text, bytes: &[u8]) -> Result<Plain, Refusal<'a>>
     requires { length bytes.now ≤ file_limit }
     ensures { IsDescribed name.now bytes.now result }
 {
-    let tree = accepted(alloc, name, bytes)?;
-    described(alloc, name, tree_of(&tree))
+    let tree = typed_tree(alloc, name, bytes)?;
+    described(alloc, name, &tree.desc)
 }
 
 /// The tree that the bytes of the named file are accepted as.
 pub fn accepted<'a>(alloc: Global, name: &'a Text, bytes: &[u8]) -> Result<Checked, Refusal<'a>>
     requires { length bytes.now ≤ file_limit }
-    ensures { IsReadAs name.now bytes.now result }
+    ensures { IsReadAs true name.now bytes.now result }
 {
     let tree = spelled(alloc, name, bytes)?;
     checked(alloc, name, tree)
+}
+
+/// The tree that the bytes of the named file spell, where it has none of the faults N4 to N11.
+fn typed_tree<'a>(alloc: Global, name: &'a Text, bytes: &[u8]) -> Result<Typed, Refusal<'a>>
+    requires { length bytes.now ≤ file_limit }
+    ensures { IsReadAs false name.now bytes.now result }
+{
+    let tree = spelled(alloc, name, bytes)?;
+    typed_as(alloc, name, tree)
+}
+
+/// The tree of the named file, where it has none of the faults N4 to N11.
+fn typed_as<'a>(alloc: Global, name: &'a Text, tree: Desc) -> Result<Typed, Refusal<'a>>
+    ensures { IsCheckedAs false name.now tree result }
+{
+    match typed(alloc, tree) {
+        Ok(tree) => Ok(tree),
+        Err(fault) => Err(refusal_of(name, fault)),
+    }
 }
 
 /// The tree of a description that is accepted.
@@ -43,7 +63,7 @@ pub fn tree_of(accepted: &Checked) -> &Desc
 /// The tree that the bytes of the named file spell.
 fn spelled<'a>(alloc: Global, name: &'a Text, bytes: &[u8]) -> Result<Desc, Refusal<'a>>
     requires { length bytes.now ≤ file_limit }
-    ensures { IsSpelledAs name.now bytes.now result }
+    ensures { (whole : Bool) → IsSpelledAs whole name.now bytes.now result }
 {
     match read(alloc, bytes) {
         Ok(tree) => Ok(tree),
@@ -53,7 +73,7 @@ fn spelled<'a>(alloc: Global, name: &'a Text, bytes: &[u8]) -> Result<Desc, Refu
 
 /// The tree of the named file, where it has none of the faults N4 to N14.
 fn checked<'a>(alloc: Global, name: &'a Text, tree: Desc) -> Result<Checked, Refusal<'a>>
-    ensures { IsCheckedAs name.now tree result }
+    ensures { IsCheckedAs true name.now tree result }
 {
     match check(alloc, tree) {
         Ok(tree) => Ok(tree),
