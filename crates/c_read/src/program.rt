@@ -7,6 +7,7 @@ ghost use Rattle.c_tree.specs.Items as tree;
 ghost use Rattle.c_tree.specs.declared.fault.CFault.TheVariants as faults;
 ghost use Rattle.c_grammar.specs.Programs.{program_read};
 ghost use Rattle.c_grammar.specs.Trees.{IsTree, IsReadFault};
+ghost use Rattle.c_read.specs.Seen.{AreSymbols};
 
 use crate::item::item;
 use crate::sign::{first_outside, signs};
@@ -27,15 +28,7 @@ pub fn read(alloc: Global, bytes: &[u8]) -> Result<CTree, CFault>
     requires { length bytes.now ≤ 4194304 }
     ensures { MatchResult result (IsTree bytes.now) (IsReadFault bytes.now) }
 {
-    let tokens = match lex(alloc, bytes) {
-        Ok(tokens) => tokens,
-        Err(LexFault::Stuck { at }) => return Err(no_token(at)),
-        Err(LexFault::Memory) => return Err(CFault::Memory),
-    };
-    if let Some(at) = first_outside(&tokens.list) {
-        return Err(CFault::Outside { at });
-    }
-    let signs = signs(alloc, &tokens.list)?;
+    let signs = symbols(alloc, bytes)?;
     match items(alloc, &signs) {
         Ok(globals) => Ok(CTree { globals }),
         Err(Stop::Stuck(left)) => {
@@ -44,6 +37,22 @@ pub fn read(alloc: Global, bytes: &[u8]) -> Result<CTree, CFault>
         }
         Err(Stop::Memory) => Err(CFault::Memory),
     }
+}
+
+/// The symbols of the bytes' tokens, where programs have each of them. The list of tokens goes with the call.
+fn symbols<'a>(alloc: Global, bytes: &'a [u8]) -> Result<Vec<Sign<'a>>, CFault>
+    requires { length bytes.now ≤ 4194304 }
+    ensures { MatchResult result (λ v. AreSymbols bytes.now (map seen v.items)) (IsReadFault bytes.now) }
+{
+    let tokens = match lex(alloc, bytes) {
+        Ok(tokens) => tokens,
+        Err(LexFault::Stuck { at }) => return Err(no_token(at)),
+        Err(LexFault::Memory) => return Err(CFault::Memory),
+    };
+    if let Some(at) = first_outside(&tokens.list) {
+        return Err(CFault::Outside { at });
+    }
+    Ok(signs(alloc, &tokens.list)?)
 }
 
 /// The fault of bytes that begin no token at this place.

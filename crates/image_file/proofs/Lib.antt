@@ -1,2 +1,9 @@
 pub mod Bytes
 pub mod OneFile
+pub mod Numbers
+pub mod Steps
+pub mod Reading
+pub mod Refusing
+pub mod Written
+pub mod Limits
+pub mod Answered

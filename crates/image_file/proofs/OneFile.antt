@@ -5,7 +5,7 @@ use Rattle.std.specs.List.{AllByRecursion}
 use Rattle.image_file.specs.File.{Picture, Init, IsInit, HasFile, big_endian, word_bytes, init_bytes, file}
 use Rattle.image_file.proofs.Bytes.{same_front, same_number_front, same_words, word_fits}
 
-init_is : (x y : Init) → x.storage ≡ y.storage → x.cell ≡ y.cell → x.value ≡ y.value → x ≡ y
+pub init_is : (x y : Init) → x.storage ≡ y.storage → x.cell ≡ y.cell → x.value ≡ y.value → x ≡ y
 init_is x y a b c =
     ap (λ (n : ℕ). record { storage = n; cell = x.cell; value = x.value }) a
     ∙ ap (λ (n : ℕ). record { storage = y.storage; cell = n; value = x.value }) b
@@ -32,7 +32,7 @@ same_inits (x ∷ xs) (y ∷ ys) a b l e =
 abbrev head : ℕ → List ℕ
 head width = 78 ∷ 77 ∷ 76 ∷ 73 ∷ 1 ∷ width ∷ []
 
-picture_is : (i j : Picture) → i.digest ≡ j.digest → i.width ≡ j.width → i.words ≡ j.words → i.inits ≡ j.inits → i ≡ j
+pub picture_is : (i j : Picture) → i.digest ≡ j.digest → i.width ≡ j.width → i.words ≡ j.words → i.inits ≡ j.inits → i ≡ j
 picture_is i j a b c d =
     ap (λ (n : List ℕ). record { digest = n; width = i.width; words = i.words; inits = i.inits }) a
     ∙ ap (λ (n : ℕ). record { digest = j.digest; width = n; words = i.words; inits = i.inits }) b

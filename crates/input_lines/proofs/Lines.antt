@@ -4,6 +4,7 @@ use Rattle.std.specs.Prelude.{◌==◌}
 use Rattle.std.specs.List.{list_all, onto_first}
 use Rattle.std.proofs.lemmas.Bool.{and_parts, not-true}
 use Rattle.std.proofs.lemmas.List.Splits.{slice_split-cons_no}
+use Rattle.nk_base.specs.declared.number.Ty.{Ty}
 use Rattle.input_lines.specs.Input.{lines, numbers_in, in_front, with_line, numbers_from, numbers}
 use Rattle.input_lines.specs.Reading.{is_no_feed, IsFirstLine, TakesLine}
 
@@ -39,7 +40,7 @@ size_falls text line None h = omega arith
 size_falls text line (Some more) h = omega (arith, ap length h.rest, length-append line (10 ∷ more.now))
 
 -- the numbers of the lines so far, and of those that are left, are those of the text
-pub record IsSoFar (n : ℕ) (text : List ℕ) (number : ℕ) (left : Option (Bor (List ℕ))) (found : List ℤ) : Type 0 where
+pub record IsSoFar (n : Option Ty) (text : List ℕ) (number : ℕ) (left : Option (Bor (List ℕ))) (found : List ℤ) : Type 0 where
   pub goes : numbers n text ≡ in_front found (numbers_from n (number + 1) (lines_left left))
   pub room : number + size_left left ≤ length text + 1
 
@@ -51,21 +52,21 @@ both_in_front : (xs ys : List ℤ) (r : Result (List ℤ) ℕ) → in_front xs (
 both_in_front xs ys (Ok zs) = ap Ok (sym (append_assoc xs ys zs))
 both_in_front xs ys (Err line) = refl
 
-pub at_start : (n : ℕ) (text : Bor (List ℕ)) → IsSoFar n text.now 0 (Some text) []
+pub at_start : (n : Option Ty) (text : Bor (List ℕ)) → IsSoFar n text.now 0 (Some text) []
 at_start n text = record { goes = nothing_in_front (numbers n text.now); room = omega arith }
 
-pub at_end : (n : ℕ) (text : List ℕ) (number : ℕ) (found : List ℤ) → IsSoFar n text number None found → numbers n text ≡ Ok found
+pub at_end : (n : Option Ty) (text : List ℕ) (number : ℕ) (found : List ℤ) → IsSoFar n text number None found → numbers n text ≡ Ok found
 at_end n text number found s = s.goes ∙ ap Ok (append-nil found)
 
 -- what the line that is left first comes to
-first_line : (n : ℕ) (text : List ℕ) (number : ℕ) (rest : Option (Bor (List ℕ))) (left : Bor (List ℕ)) (found : List ℤ) (line : List ℕ) (more : Option (Bor (List ℕ)))
+first_line : (n : Option Ty) (text : List ℕ) (number : ℕ) (rest : Option (Bor (List ℕ))) (left : Bor (List ℕ)) (found : List ℤ) (line : List ℕ) (more : Option (Bor (List ℕ)))
     → rest ≡ Some left → IsSoFar n text number rest found → IsFirstLine left.now line more
     → numbers n text ≡ in_front found (with_line (numbers_in n line) (number + 1) (numbers_from n (number + 1 + 1) (lines_left more)))
 first_line n text number rest left found line more e s f =
     let t = subst (λ r. IsSoFar n text number r found) e s in
     t.goes ∙ ap (λ l. in_front found (numbers_from n (number + 1) l)) (first_of_lines left.now line more f)
 
-pub goes_on : (n : ℕ) (text : List ℕ) (number : ℕ) (rest : Option (Bor (List ℕ))) (left : Bor (List ℕ)) (found new : List ℤ) (line : List ℕ) (more : Option (Bor (List ℕ)))
+pub goes_on : (n : Option Ty) (text : List ℕ) (number : ℕ) (rest : Option (Bor (List ℕ))) (left : Bor (List ℕ)) (found new : List ℤ) (line : List ℕ) (more : Option (Bor (List ℕ)))
     → rest ≡ Some left → IsSoFar n text number rest found → IsFirstLine left.now line more → TakesLine n line found new true
     → IsSoFar n text (number + 1) more new
 goes_on n text number rest left found new line more e s f g =
@@ -78,7 +79,7 @@ goes_on n text number rest left found new line more e s f g =
       room = omega (arith, t.room, size_falls left.now line more f);
     }
 
-pub fails_here : (n : ℕ) (text : List ℕ) (number : ℕ) (rest : Option (Bor (List ℕ))) (left : Bor (List ℕ)) (found new : List ℤ) (line : List ℕ) (more : Option (Bor (List ℕ)))
+pub fails_here : (n : Option Ty) (text : List ℕ) (number : ℕ) (rest : Option (Bor (List ℕ))) (left : Bor (List ℕ)) (found new : List ℤ) (line : List ℕ) (more : Option (Bor (List ℕ)))
     → rest ≡ Some left → IsSoFar n text number rest found → IsFirstLine left.now line more → TakesLine n line found new false
     → numbers n text ≡ Err (number + 1)
 fails_here n text number rest left found new line more e s f g =

@@ -6,23 +6,23 @@ ghost use Rattle.std.specs.List.{list_all, prefix_len};
 ghost use Rattle.std.specs.Str.Parse.{digits_value};
 ghost use Rattle.nk_base.specs.Byte as byte;
 ghost use Rattle.input_lines.specs.Input as spec;
-ghost use Rattle.input_lines.specs.Reading.{TakesLine};
+ghost use Rattle.input_lines.specs.Reading.{IsInput, TakesLine};
 
 use nk_base::byte::is_blank;
-use nk_base::{Memory, digits_len, number_of_digits, power_of_two};
+use nk_base::{Memory, Ty, digits_len, number_of_digits};
+use nk_range::is_in_range;
 
-/// Appends the number that the line writes, if it isn't blank; `false` where it writes none of `n` bits.
-pub fn push_line(line: &[u8], n: u32, numbers: &mut Vec<i64>) -> Result<bool, Memory>
-    requires low { 1 ≤ n }
-    requires high { n ≤ 64 }
-    ensures { IfOk result (λ b. TakesLine n line.now numbers.old.items numbers.new.items b) }
+/// Appends the number that the line writes, if it isn't blank; `false` where it writes none of the type.
+pub fn push_line(line: &[u8], ty: Option<Ty>, numbers: &mut Vec<i64>) -> Result<bool, Memory>
+    requires { IsInput ty }
+    ensures { IfOk result (λ b. TakesLine ty line.now numbers.old.items numbers.new.items b) }
 {
     if are_blank(line) {
         return Ok(true);
     }
     match signed_number(behind_blanks(line)) {
         Some(number) => {
-            if is_within(n, number) {
+            if is_wanted(ty, number) {
                 numbers.push(number as i64)?;
                 Ok(true)
             } else {
@@ -95,12 +95,13 @@ fn signed_number(text: &[u8]) -> Option<i128>
     }
 }
 
-/// Whether it is a number of so many bits with a sign.
-fn is_within(n: u32, z: i128) -> bool
-    requires low { 1 ≤ n }
-    requires high { n ≤ 64 }
-    ensures { result ≡ spec.is_within n z }
+/// Whether it is a number of the type; none is where there is no input.
+fn is_wanted(ty: Option<Ty>, z: i128) -> bool
+    requires { IsInput ty }
+    ensures { result ≡ spec.is_wanted ty z }
 {
-    let bound = power_of_two(n - 1);
-    -bound <= z && z < bound
+    match ty {
+        None => false,
+        Some(ty) => is_in_range(ty, z),
+    }
 }

@@ -1,11 +1,11 @@
 //! The numbers of a whole input.
 
 ghost use Rattle.std.specs.Prelude.{◌≤◌, length};
-ghost use Rattle.input_lines.specs.Reading.{AreNumbers};
+ghost use Rattle.input_lines.specs.Reading.{AreNumbers, IsInput};
 
 use crate::first::first_line;
 use crate::line::push_line;
-use nk_base::Memory;
+use nk_base::{Memory, Ty};
 use std::alloc::Global;
 
 /// Why an input isn't numbers.
@@ -28,16 +28,16 @@ impl From<Memory> for InputFault {
     }
 }
 
-/// The numbers of `n` bits that the lines of an input write, in order: one a line, but for blank lines, which count as lines.
+/// The numbers that the lines of an input of this type write, in order: one a line, but for blank lines, which count as lines. Where there is no
+/// input, no number is wanted.
 ///
-/// A number is an optional `-` and one to nineteen digits; blanks, tabs and carriage returns round it are skipped. `Line` comes exactly where a
+/// A type has at most 63 bits. A number is an optional `-` and one to nineteen digits; blanks, tabs and carriage returns round it are skipped. `Line` comes exactly where a
 /// line isn't blank and isn't one such number, at the first. Each byte is looked at a fixed number of times. Want of memory may come at any
 /// growth. The rule is this project's own.
-pub fn numbers_of(alloc: Global, text: &[u8], n: u32) -> Result<Vec<i64>, InputFault>
-    requires low { 1 ≤ n }
-    requires high { n ≤ 64 }
+pub fn numbers_of(alloc: Global, text: &[u8], ty: Option<Ty>) -> Result<Vec<i64>, InputFault>
+    requires ty { IsInput ty }
     requires limit { length text.now ≤ 4194304 }
-    ensures { AreNumbers n text.now result }
+    ensures { AreNumbers ty text.now result }
 {
     let mut numbers = Vec::new(alloc);
     let mut line = 0u64;
@@ -45,7 +45,7 @@ pub fn numbers_of(alloc: Global, text: &[u8], n: u32) -> Result<Vec<i64>, InputF
     while let Some(left) = rest {
         let (first, more) = first_line(left);
         line += 1;
-        if !push_line(first, n, &mut numbers)? {
+        if !push_line(first, ty, &mut numbers)? {
             return Err(InputFault::Line(line));
         }
         rest = more;

@@ -1,2 +1,3 @@
-pub mod Written
-pub mod Growing
+pub mod Gathered
+pub mod Instances
+pub mod Naming

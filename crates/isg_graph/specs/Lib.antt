@@ -1,5 +1,3 @@
-pub mod Keys
-pub mod Written
-pub mod Grow
-pub mod Narrow
-pub mod Sample
+pub mod Graph
+pub mod Kept
+pub mod Instance

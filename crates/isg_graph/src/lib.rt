@@ -1,12 +1,6 @@
-//! The graph of a description: actions written out as nodes by number, each node over older ones, equal ones shared.
+//! The graph of a checked description: its shapes, what each does as nodes, and what a word of a shape is and does.
 #![tactic(auto)]
 
-mod grow;
-mod key;
-mod node;
-mod value;
+mod graph;
 
-pub use grow::add;
-pub use key::Key;
-pub use node::{Node, Numbers};
-pub use value::{node_at, value_at};
+pub use graph::Isg;

@@ -23,7 +23,7 @@ use Rattle.nml_widths.proofs.WidthLaws.{stand_whole}
 use Rattle.attr_eval.proofs.Values.{told, width_is, bits_may}
 use Rattle.attr_exec.specs.Ready.{IsLawful}
 use Rattle.attr_exec.proofs.Standing.{stand_left, stand_right, stand_behind}
-use Rattle.isg_graph.specs.Narrow.{IsNarrow}
+use Rattle.isg_nodes.specs.Narrow.{IsNarrow}
 use Rattle.isg_run.specs.Narrow.{IsAlwaysNarrow, AreNarrow}
 
 module _ (t : Table) (zs : List ℤ) where

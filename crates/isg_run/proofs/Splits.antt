@@ -5,9 +5,9 @@ use Rattle.nk_base.specs.declared.number.Ty.{Ty}
 use Rattle.nml_tree.specs.Table.{Table}
 use Rattle.nml_tree.specs.Act.{Term, Act, Done}
 use Rattle.attr_exec.specs.Ran.{Scene, ran}
-use Rattle.isg_graph.specs.declared.node.Node.{Node}
-use Rattle.isg_graph.specs.declared.node.Node.TheVariants as node
-use Rattle.isg_graph.specs.Written.{one_act, grown_term, grown_act, statement}
+use Rattle.isg_nodes.specs.declared.node.Node.{Node}
+use Rattle.isg_nodes.specs.declared.node.Node.TheVariants as node
+use Rattle.isg_nodes.specs.Written.{one_act, grown_term, grown_act, statement}
 use Rattle.isg_run.specs.Narrow.{AreNarrow}
 
 module _ (out : Ty) (zs : List ℤ) (next : Option ℤ) where

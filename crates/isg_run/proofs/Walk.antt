@@ -7,8 +7,8 @@ use Rattle.nml_tree.specs.Act.{Done}
 use Rattle.attr_exec.specs.Ran.{Scene, Same, ran}
 use Rattle.attr_exec.specs.Ready.{Ready}
 use Rattle.attr_exec.proofs.Running.{same_self, same_trans, ready_same}
-use Rattle.isg_graph.specs.declared.node.Node.{Node}
-use Rattle.isg_graph.specs.Written.{in_order, statement, AllBelow}
+use Rattle.isg_nodes.specs.declared.node.Node.{Node}
+use Rattle.isg_nodes.specs.Written.{in_order, statement, AllBelow}
 use Rattle.isg_run.specs.Narrow.{AreNarrow}
 use Rattle.isg_run.proofs.Splits.{splits, narrow_splits}
 

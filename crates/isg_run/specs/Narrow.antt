@@ -4,7 +4,7 @@ use Rattle.nml_tree.specs.Table.{Table}
 use Rattle.nml_tree.specs.Act.{Term, Act, Done, SetCell, SetTrn, Put, Halt, When}
 use Rattle.nml_tree.specs.Value.{View}
 use Rattle.nml_widths.specs.Fitting.{AreOfTypes}
-use Rattle.isg_graph.specs.Narrow.{IsNarrow}
+use Rattle.isg_nodes.specs.Narrow.{IsNarrow}
 
 -- with these fields 128 bits hold what the expression is worth, whatever cells, transitories and input of their types hold
 abbrev pub IsAlwaysNarrow : Table → List ℤ → Term → Type 0

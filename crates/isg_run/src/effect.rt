@@ -3,7 +3,7 @@
 ghost use Rattle.std.specs.Prelude.{◌≡◌, ◌&&◌, ℕ, List, codes, is_none, length};
 ghost use Rattle.attr_exec.specs.Does.{DoesExec, IsStateOf};
 ghost use Rattle.attr_exec.specs.Ready.{NextFits};
-ghost use Rattle.isg_graph.specs.Written.{AllBelow, Falls, action};
+ghost use Rattle.isg_nodes.specs.Written.{AllBelow, Falls, action};
 ghost use Rattle.nml_tree.specs.Derivation.{Derivation};
 ghost use Rattle.nml_tree.specs.Exec as spec;
 ghost use Rattle.nml_tree.specs.Legal.{IsLegal};
@@ -15,7 +15,7 @@ ghost use Rattle.nml_tree.specs.declared.tree.Desc.{Desc};
 
 use crate::statement::run_all;
 use attr_exec::{Done, answer, settle};
-use isg_graph::Node;
+use isg_nodes::{Fields, Node};
 use nk_base::Ty;
 use nml_state::{Exec, State};
 
@@ -28,7 +28,7 @@ use nml_state::{Exec, State};
 pub fn apply(
     nodes: &[Node],
     effect: &[u32],
-    fields: &[i128],
+    fields: &Fields<'_>,
     out: Ty,
     pc: usize,
     s: &mut State,

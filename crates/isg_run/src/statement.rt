@@ -4,8 +4,8 @@ ghost use Rattle.std.specs.Prelude.{◌≡◌, ◌<◌, ◌||◌, if◌then◌el
 ghost use Rattle.attr_exec.specs.Ran.{Same, ran, scene};
 ghost use Rattle.attr_exec.specs.Ready.{Ready};
 ghost use Rattle.attr_exec.specs.Seen.{view};
-ghost use Rattle.isg_graph.specs.Narrow.{IsWorth};
-ghost use Rattle.isg_graph.specs.Written.{AllBelow, Falls, action, statement, term};
+ghost use Rattle.isg_nodes.specs.Narrow.{IsWorth};
+ghost use Rattle.isg_nodes.specs.Written.{AllBelow, Falls, action, statement, term};
 ghost use Rattle.isg_run.specs.Narrow.{AreNarrow, IsAlwaysNarrow};
 ghost use Rattle.nml_tree.specs.Act as act;
 ghost use Rattle.nml_tree.specs.Table.{Table};
@@ -13,12 +13,12 @@ ghost use Rattle.nml_tree.specs.Value.{is_true};
 
 use attr_eval::is_zero;
 use attr_exec::{Done, halt_with, look_at, put_out};
-use isg_graph::{Node, node_at, value_at};
+use isg_nodes::{Fields, Node, node_at, value_at};
 use nk_base::Ty;
 use nml_state::State;
 
 /// The value of the expression of this node, and whether the input is read on the way to it.
-fn worth(nodes: &[Node], n: u32, fields: &[i128], s: &State, next: Option<i64>) -> (i128, bool)
+fn worth(nodes: &[Node], n: u32, fields: &Fields<'_>, s: &State, next: Option<i64>) -> (i128, bool)
     requires falls { Falls nodes.now }
     requires within { n < length nodes.now }
     ensures { (t : Table) → Ready t next s.now → IsAlwaysNarrow t fields.now (term nodes.now n) → IsWorth (view fields.now s.now next) (term nodes.now n) result.0 result.1 }
@@ -44,7 +44,7 @@ fn either(a: bool, b: bool) -> bool
 fn run_one(
     nodes: &[Node],
     n: u32,
-    fields: &[i128],
+    fields: &Fields<'_>,
     out: Ty,
     s: &mut State,
     next: Option<i64>,
@@ -98,7 +98,7 @@ fn run_one(
 pub fn run_all(
     nodes: &[Node],
     effect: &[u32],
-    fields: &[i128],
+    fields: &Fields<'_>,
     out: Ty,
     s: &mut State,
     next: Option<i64>,

@@ -7,6 +7,7 @@ use Rattle.plain_tools.specs.PlainText.{lines}
 use Rattle.nml_suite.specs.Answer.{AreNamed}
 use Rattle.nml_suite.specs.Coming.{SumsUp, Summed, Opens, Short, Opened, Accepts, Faulty, Accepted, Simplifies, Other, Plain, AssemblesTo, NotPlain, NoMatch, Words, Loads, NoImage, Loaded, RunsTo, Input, Ran, IsImageOf, first_input, Targets, NoTarget, Targeted, Compiles, FaultyProgram, SoundProgram, EvaluatesTo, BadNumber, Evaluated}
 use Rattle.nml_target.specs.Target.{target}
+use Rattle.nk_base.specs.declared.number.Ty.TheVariants as ty
 use Rattle.input_lines.specs.Input.{numbers}
 use Rattle.c_tree.specs.declared.program.CTree.{CTree}
 use Rattle.c_tree.specs.Meaning.{outcome}
@@ -158,7 +159,7 @@ pub not_compiled : (b : Store) (names : List (List ℕ)) (name bytes : List ℕ)
 not_compiled b names name bytes n e goes (inl wants) = here b names _ _ (inr (ap telling wants))
 not_compiled b names name bytes n e goes (inr x) = here b names _ _ (inl (FaultyProgram x.fault x.faulty (record { last = refl; is = ap telling x.is })))
 
-pub numbered : (b : Store) (x : List ℕ) (turns n bits : ℕ) (tree : CTree) (text : List ℕ) (found : List ℤ) → bits ≡ n → numbers n text ≡ Ok found
+pub numbered : (b : Store) (x : List ℕ) (turns n bits : ℕ) (tree : CTree) (text : List ℕ) (found : List ℤ) → bits ≡ n → numbers (Some (ty.Int n)) text ≡ Ok found
     → Settles b b [] (EvaluatesTo x turns n tree text) (telling (told_outcome (outcome (resolved tree) bits found turns)))
 numbered b x turns n bits tree text found same is =
     here b [] _ _ (inl (Evaluated found is (record { last = refl; is = ap (λ k. telling (told_outcome (outcome (resolved tree) k found turns))) same })))

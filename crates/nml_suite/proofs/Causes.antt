@@ -15,6 +15,7 @@ use Rattle.nml_suite.specs.Coming.{EndsWith, SumsUp, Summed, Opens, Short, Opene
 use Rattle.nml_suite.specs.Described.{IsAccepted}
 use Rattle.nml_suite.specs.Files.{HaveCauses, Leaves}
 use Rattle.nml_target.specs.Target.{target}
+use Rattle.nk_base.specs.declared.number.Ty.TheVariants as ty
 use Rattle.input_lines.specs.Input.{numbers}
 use Rattle.nk_outside.specs.declared.stop.Stop as outside
 use Rattle.nk_outside.specs.declared.stop.Stop.TheVariants as ends
@@ -193,7 +194,7 @@ compiles_owe : (b n : Moment) (form : Option Form) (s : HasSource b form) (goes 
 compiles_owe b n form s goes xs w h (FaultyProgram fault x e) = ends_owe b n form xs w _ e (λ t. inr (record { files = s; fault = fault; faulty = x; told = t }))
 compiles_owe b n form s goes xs w h (SoundProgram tree is g) = h tree is g
 
-ending_owes : (b n : Moment) (form : Option Form) (p : HasProgram b form) (found : List ℤ) (stop : outside.Stop) → numbers p.files.bits p.input.bytes ≡ Ok found
+ending_owes : (b n : Moment) (form : Option Form) (p : HasProgram b form) (found : List ℤ) (stop : outside.Stop) → numbers (Some (ty.Int p.files.bits)) p.input.bytes ≡ Ok found
     → (outcome_of b form p found).stop ≡ stop → Took b.taken n.taken (told_outcome (outcome_of b form p found)).text → HasCause b n form (ending_status stop)
 ending_owes b n form p found ends.Running is e t = inr (record { files = p; found = found; is = is; stop = e; told = t })
 ending_owes b n form p found ends.Ended is e t = inr (inr (inr (record { files = p; found = found; is = is; stop = inl e; told = t })))

@@ -23,6 +23,7 @@ use Rattle.nml_tree.specs.Refused.{IsChecked}
 use Rattle.nml_suite.specs.Described.{IsFaultOf, IsRight, Spells, NoTokens, NoTree, Floating, Refused, IsAccepted, IsBuilt}
 use Rattle.nml_target.specs.Target.{target}
 use Rattle.nml_target.specs.declared.width.Lacking.{Lacking}
+use Rattle.nk_base.specs.declared.number.Ty.TheVariants as ty
 use Rattle.input_lines.specs.Input.{numbers}
 use Rattle.c_tree.specs.declared.program.CTree.{CTree}
 use Rattle.c_tree.specs.declared.fault.CFault.TheVariants as c_faults
@@ -134,7 +135,7 @@ compiles_by answers k name bytes n goes h (inr (inl x)) none = none [] _ tt (Fau
 compiles_by answers k name bytes n goes h (inr (inr (inl x))) none = none [] _ tt (FaultyProgram (c_faults.Outside x.0) (LeftOut x.0 refl x.1) (record { last = refl; is = refl }))
 compiles_by answers k name bytes n goes h (inr (inr (inr x))) none = none [] _ tt (FaultyProgram (c_faults.Lex x.0) (NoProgramTokens x.0 refl x.1) (record { last = refl; is = refl }))
 
-evaluates_by : (answers : Answering) (k : ℕ) (x : List ℕ) (turns n : ℕ) (tree : CTree) (text : List ℕ) (r : Result (List ℤ) ℕ) → numbers n text ≡ r
+evaluates_by : (answers : Answering) (k : ℕ) (x : List ℕ) (turns n : ℕ) (tree : CTree) (text : List ℕ) (r : Result (List ℤ) ℕ) → numbers (Some (ty.Int n)) text ≡ r
     → Comes answers k (EvaluatesTo x turns n tree text)
 evaluates_by answers k x turns n tree text (Err line) e none = none [] _ tt (BadNumber line e (record { last = refl; is = refl }))
 evaluates_by answers k x turns n tree text (Ok found) e none = none [] _ tt (Evaluated found e (record { last = refl; is = refl }))
@@ -164,7 +165,7 @@ comes answers (Some (Ceval d s x turns)) all =
     (λ tree a. targets_by answers 1 d tree _ (target tree) refl
     (λ n. opens answers 1 s _ all
     (λ text. compiles_by answers 2 s text n _
-    (λ program. opens answers 2 x _ all (λ entry. evaluates_by answers 3 x turns n program entry (numbers n entry) refl))
+    (λ program. opens answers 2 x _ all (λ entry. evaluates_by answers 3 x turns n program entry (numbers (Some (ty.Int n)) entry) refl))
     (some_bytes text)))))
 comes answers (Some (Demo k)) all = ends answers 0 _
 

@@ -15,6 +15,7 @@ use Rattle.plain_tools.specs.Machine.{Runs, beginning, Stop, Running, Halted, No
 use Rattle.plain_tools.specs.Machine as machine
 use Rattle.nml_target.specs.Target.{target}
 use Rattle.nml_target.specs.declared.width.Lacking.{Lacking}
+use Rattle.nk_base.specs.declared.number.Ty.TheVariants as ty
 use Rattle.input_lines.specs.Input.{numbers}
 use Rattle.nk_outside.specs.Outcome.{Outcome}
 use Rattle.nk_outside.specs.declared.stop.Stop as outside
@@ -265,7 +266,7 @@ pub record HasProgram (before : Moment) (form : Option Form) : Type 0 where
 pub record HasBadNumber (before now : Moment) (form : Option Form) : Type 0 where
   pub files : HasProgram before form
   pub line : ℕ
-  pub bad : numbers files.files.bits files.input.bytes ≡ Err line
+  pub bad : numbers (Some (ty.Int files.files.bits)) files.input.bytes ≡ Err line
   pub told : Took before.taken now.taken (bad_input files.input.name line).text
 
 -- what the program comes to on these numbers
@@ -276,7 +277,7 @@ outcome_of before form files found = outcome (resolved files.program) files.file
 pub record HasOutcome (before now : Moment) (form : Option Form) (stops : outside.Stop → Type 0) : Type 0 where
   pub files : HasProgram before form
   pub found : List ℤ
-  pub is : numbers files.files.bits files.input.bytes ≡ Ok found
+  pub is : numbers (Some (ty.Int files.files.bits)) files.input.bytes ≡ Ok found
   pub stop : stops (outcome_of before form files found).stop
   pub told : Took before.taken now.taken (told_outcome (outcome_of before form files found)).text
 

@@ -18,6 +18,7 @@ use Rattle.plain_tools.specs.Machine.{Runs, beginning}
 use Rattle.plain_tools.specs.Machine as machine
 use Rattle.nml_target.specs.Target.{target}
 use Rattle.nml_target.specs.declared.width.Lacking.{Lacking}
+use Rattle.nk_base.specs.declared.number.Ty.TheVariants as ty
 use Rattle.input_lines.specs.Input.{numbers}
 use Rattle.c_tree.specs.declared.program.CTree.{CTree}
 use Rattle.c_tree.specs.declared.fault.CFault.{CFault}
@@ -141,8 +142,8 @@ pub data Compiles (name bytes : List ℕ) (n : ℕ) (goes : CTree → List Asked
 
 -- What `ceval` comes to on a program whose numbers have n bits, and the bytes of an input: its run on the numbers of that, for at most so many turns.
 pub data EvaluatesTo (input : List ℕ) (turns n : ℕ) (tree : CTree) (text : List ℕ) (asked : List Asked) (work : Work) : Type 0 where
-  BadNumber : (line : ℕ) → numbers n text ≡ Err line → EndsWith (bad_input input line) asked work → EvaluatesTo input turns n tree text asked work
-  Evaluated : (found : List ℤ) → numbers n text ≡ Ok found → EndsWith (told_outcome (outcome (resolved tree) n found turns)) asked work
+  BadNumber : (line : ℕ) → numbers (Some (ty.Int n)) text ≡ Err line → EndsWith (bad_input input line) asked work → EvaluatesTo input turns n tree text asked work
+  Evaluated : (found : List ℤ) → numbers (Some (ty.Int n)) text ≡ Ok found → EndsWith (told_outcome (outcome (resolved tree) n found turns)) asked work
       → EvaluatesTo input turns n tree text asked work
 
 -- what `ceval` comes to: the description first, then the program, then the input

@@ -22,6 +22,7 @@ use Rattle.nml_types.specs.Summary.{IsSummary}
 use Rattle.nml_types.specs.declared.checking.Summary.{Summary}
 use Rattle.nml_target.specs.Target.{target}
 use Rattle.nml_target.specs.declared.width.Lacking.{Lacking}
+use Rattle.nk_base.specs.declared.number.Ty.TheVariants as ty
 use Rattle.input_lines.specs.Input.{numbers}
 use Rattle.c_tree.specs.declared.program.CTree.{CTree}
 use Rattle.c_tree.specs.declared.fault.CFault.{CFault}
@@ -269,12 +270,12 @@ IsCompiled name bytes n (Err refusal) = Wants refusal ⊎ IsFaultyProgram name b
 -- the first line that writes no number that is wanted is told
 pub record IsBadNumber (name : List ℕ) (n : ℕ) (text : List ℕ) (told : Reply) : Type 0 where
   pub line : ℕ
-  pub bad : numbers n text ≡ Err line
+  pub bad : numbers (Some (ty.Int n)) text ≡ Err line
   pub is : told ≡ bad_input name line
 
 -- these are the numbers of the input, or a line of it is bad, or memory was wanted
 abbrev pub IsNumbered : List ℕ → ℕ → List ℕ → Result (Vec ℤ) Refusal → Type 0
-IsNumbered name n text (Ok found) = numbers n text ≡ Ok found.items
+IsNumbered name n text (Ok found) = numbers (Some (ty.Int n)) text ≡ Ok found.items
 IsNumbered name n text (Err refusal) = Wants refusal ⊎ IsBadNumber name n text (refused refusal)
 
 -- the run of what was prepared, for at most so many turns, or a refusal is told

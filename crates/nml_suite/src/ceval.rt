@@ -14,7 +14,7 @@ use c_read::read;
 use c_tree::{CFault, CProg, CTree};
 use fault_texts::is_c_memory;
 use input_lines::{InputFault, numbers_of};
-use nk_base::{Memory, Text};
+use nk_base::{Memory, Text, Ty};
 use nk_outside::Files;
 use nml_known::Names;
 use nml_target::target;
@@ -129,7 +129,7 @@ fn numbered<'a>(
     requires high { width ≤ 32 }
     ensures { IsNumbered name.now width text.now result }
 {
-    match numbers_of(alloc, text, width) {
+    match numbers_of(alloc, text, Some(Ty::Int(width))) {
         Ok(numbers) => Ok(numbers),
         Err(InputFault::Line(line)) => Err(Refusal::Input(name, line)),
         Err(InputFault::Memory) => Err(Refusal::Memory),

@@ -1,0 +1,5 @@
+pub mod Splits
+pub mod Runs
+pub mod Held
+pub mod Values
+pub mod Labeled

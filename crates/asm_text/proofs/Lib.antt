@@ -1,0 +1,16 @@
+pub mod Inits
+pub mod OneAnswer
+pub mod CanonicalTexts
+pub mod Sorted
+pub mod DataLines
+pub mod SomeAnswer
+pub mod Right
+pub mod Texts
+pub mod NumberTexts
+pub mod CellValues
+pub mod DirectiveLines
+pub mod SyntaxLines
+pub mod SyntaxTexts
+pub mod StorageNames
+pub mod RoundTrip
+pub mod ReadNames

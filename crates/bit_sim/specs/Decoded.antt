@@ -1,0 +1,16 @@
+-- The words of an image, decoded.
+use Rattle.std.specs.Prelude.{ℕ, List, Option, MatchOption}
+use Rattle.nml_tree.specs.Table.{table}
+use Rattle.nml_tree.specs.Derivation.{Derivation}
+use Rattle.nml_tree.specs.Machine.{IsInstruction}
+use Rattle.nml_shape.specs.declared.shape.Inst.{Inst}
+use Rattle.isg_graph.specs.Graph.{AreFor, Graph}
+use Rattle.isg_graph.specs.Instance.{IsInstOf}
+
+-- the word is no instruction, or this one
+abbrev pub IsDecoded : Graph → ℕ → Option Inst → Type 0
+IsDecoded g w o = MatchOption o ((x : Derivation) → IsInstruction (table g.desc) w x → ⊥) (λ i. (x : Derivation) × IsInstOf g i x × IsInstruction (table g.desc) w x)
+
+-- so each of the words
+abbrev pub AreDecoded : Graph → List ℕ → List (Option Inst) → Type 0
+AreDecoded g words found = AreFor (IsDecoded g) words found

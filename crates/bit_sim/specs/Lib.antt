@@ -1,0 +1,2 @@
+pub mod Simulator
+pub mod Decoded

@@ -1,0 +1,4 @@
+pub mod First
+pub mod Small
+pub mod Alone
+pub mod Taken

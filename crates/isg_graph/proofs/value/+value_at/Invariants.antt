@@ -1,4 +1,0 @@
-use Rattle.isg_graph.proofs.value.+value_at.Given as goal
-
-abbrev pub decreases-value_at : goal.decreases-value_at
-decreases-value_at l = l.n

@@ -1,0 +1,4 @@
+pub mod Coarse
+pub mod Known
+pub mod Counts
+pub mod Sample

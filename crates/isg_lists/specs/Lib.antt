@@ -1,0 +1,4 @@
+pub mod Numbers
+pub mod Masks
+pub mod Lines
+pub mod Sample

@@ -1,0 +1,4 @@
+mod Above
+mod Adding
+mod Named
+mod Splits

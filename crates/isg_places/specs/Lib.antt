@@ -1,0 +1,5 @@
+pub mod Constant
+pub mod Places
+pub mod Spots
+pub mod Found
+pub mod Sample

@@ -1,0 +1,11 @@
+pub mod Few
+pub mod Quiet
+pub mod Steps
+pub mod Named
+pub mod Numbering
+pub mod Gives
+pub mod Putting
+pub mod Statements
+pub mod Deep
+pub mod Refers
+pub mod Whole

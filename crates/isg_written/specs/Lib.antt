@@ -1,0 +1,6 @@
+pub mod Numbers
+pub mod Counted
+pub mod Stands
+pub mod Apt
+pub mod Found
+pub mod Puts
