@@ -1,5 +1,8 @@
 //! Why a text isn't assembled.
 
+use nk_base::Memory;
+use std::alloc::{AllocError, AllocFailed};
+
 /// Why a text isn't assembled; of several faults the first here is told, at its first line. Lines count from 1.
 ///
 /// The rules are this project's own.
@@ -19,4 +22,37 @@ pub enum AsmFault {
     Data { line: u64 },
     /// Want of memory.
     Memory,
+}
+
+impl From<AllocError> for AsmFault {
+    ghost use Rattle.std.specs.Prelude.{◌≡◌};
+    ghost use Rattle.asm_text.specs.declared.fault.AsmFault.TheVariants.{Memory};
+
+    ghost from_gives = { λ _ fault. fault ≡ Memory };
+
+    fn from(_: AllocError) -> AsmFault {
+        AsmFault::Memory
+    }
+}
+
+impl<T: Drop> From<AllocFailed<T>> for AsmFault {
+    ghost use Rattle.std.specs.Prelude.{◌≡◌};
+    ghost use Rattle.asm_text.specs.declared.fault.AsmFault.TheVariants.{Memory};
+
+    ghost from_gives = { λ _ fault. fault ≡ Memory };
+
+    fn from(_: AllocFailed<T>) -> AsmFault {
+        AsmFault::Memory
+    }
+}
+
+impl From<Memory> for AsmFault {
+    ghost use Rattle.std.specs.Prelude.{◌≡◌};
+    ghost use Rattle.asm_text.specs.declared.fault.AsmFault.TheVariants.{Memory};
+
+    ghost from_gives = { λ _ fault. fault ≡ Memory };
+
+    fn from(_: Memory) -> AsmFault {
+        AsmFault::Memory
+    }
 }

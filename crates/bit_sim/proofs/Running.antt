@@ -12,7 +12,7 @@ use Rattle.nml_tree.specs.Table.{Table, table}
 use Rattle.nml_tree.specs.Derivation.{Derivation}
 use Rattle.nml_tree.specs.Exec as exec
 use Rattle.nml_tree.specs.Exec.{Exec, after, storages}
-use Rattle.nml_tree.specs.Machine.{Found, Nothing, Bad, Instruction, IsInstruction, pc_now}
+use Rattle.nml_tree.specs.Machine.{Found, Nothing, Bad, Instruction, IsFound, IsInstruction, pc_now}
 use Rattle.nml_tree.specs.Value.{Cells, cell}
 use Rattle.nml_shape.specs.declared.shape.Inst.{Inst}
 use Rattle.nml_state.specs.Cells.{Shown}
@@ -24,7 +24,7 @@ use Rattle.isg_graph.specs.Instance.{IsInstOf}
 use Rattle.isg_graph.proofs.Gathered.{there}
 use Rattle.bit_sim.specs.declared.step.Step.{Step}
 use Rattle.bit_sim.specs.declared.step.Step.TheVariants as step
-use Rattle.bit_sim.specs.Decoded.{AreDecoded, IsDecoded}
+use Rattle.bit_sim.specs.Decoded.{AreDecided, AreDecoded, IsDecoded}
 use Rattle.bit_sim.specs.Simulator.{IsStepBy, answered, at}
 use Rattle.bit_sim.proofs.Steps.{by_bad, by_done, by_nothing, by_want}
 
@@ -124,3 +124,16 @@ module _ (g : Graph) (words : List ℕ) (found : List (Option Inst)) (next : Opt
         let w = word_of g words found pc (Some i) are here in
         let stands = subst (λ p. slice_get words p ≡ Some w.0) is w.1 in
         (Instruction w.2.0, wanted (table g.desc) words next s.cells r.cells w.0 w.2.0 s r stands w.2.2 (h w.2.0 w.2.1 w.2.2.legal) refl refl)
+
+-- what was decoded decides each word
+decided_as : (g : Graph) (words : List ℕ) (n w : ℕ) (o : Option Inst) → slice_get words n ≡ Some w → IsDecoded g w o → (f : Found) × IsFound (table g.desc) (slice_get words n) f
+decided_as g words n w None stands none = (Bad, (w, stands, none))
+decided_as g words n w (Some i) stands is = (Instruction is.0, (w, stands, is.2))
+
+decided_by : (g : Graph) (words : List ℕ) (found : List (Option Inst)) (n : ℕ) (o : Option (Option Inst)) → AreDecoded g words found → slice_get found n ≡ o
+    → (f : Found) × IsFound (table g.desc) (slice_get words n) f
+decided_by g words found n None are e = (Nothing, none_behind words found n are.many e)
+decided_by g words found n (Some o) are e = let w = word_of g words found n o are e in decided_as g words n w.0 o w.1 w.2
+
+pub decided : (g : Graph) (words : List ℕ) (found : List (Option Inst)) → AreDecoded g words found → AreDecided (table g.desc) words
+decided g words found are n = decided_by g words found n (slice_get found n) are refl

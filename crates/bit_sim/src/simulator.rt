@@ -3,7 +3,7 @@
 ghost use Rattle.std.specs.Prelude.{◌≡◌, ◌<◌, ◌^◌, IfOk, List, None, map, slice_get, unsigned_abs, ℕ};
 ghost use Rattle.attr_exec.specs.Does.{IsStateOf};
 ghost use Rattle.attr_exec.specs.Ready.{NextFits};
-ghost use Rattle.bit_sim.specs.Decoded.{AreDecoded};
+ghost use Rattle.bit_sim.specs.Decoded.{AreDecided, AreDecoded};
 ghost use Rattle.bit_sim.specs.Simulator as spec_sim;
 ghost use Rattle.bit_sim.specs.Simulator.{AreInitial, IsInitial, IsStep, IsStepBy, answered, initial_of};
 ghost use Rattle.nml_tree.specs.Exec as spec;
@@ -71,6 +71,13 @@ impl<'a> Sim<'a> {
         })
     }
 
+    /// Of each word of the image it is known which instruction it is, or that it is none. It says so, and does nothing.
+    pub fn is_decided(&self)
+        ensures { AreDecided (table self.now.desc) self.now.words }
+    {
+        are_decided(self.graph, self.words, &self.found);
+    }
+
     /// One step: runs the instruction at PC, with the next input where there is one. It takes no memory.
     ///
     /// After the machine has halted each step answers so. `Step` says what each answer means; a step is one of the machine by its definition.
@@ -92,6 +99,12 @@ impl<'a> Sim<'a> {
         told
     }
 }
+
+/// What was decoded says of each word which instruction it is, or that it is none.
+fn are_decided(g: &Isg, words: &[u128], found: &[Option<Inst>])
+    requires { AreDecoded g.now words.now found.now }
+    ensures { AreDecided (table g.now.desc) words.now }
+{}
 
 /// One step of a machine that hasn't halted, its words being decoded.
 fn go(g: &Isg, found: &[Option<Inst>], s: &mut State, next: Option<i64>) -> Step

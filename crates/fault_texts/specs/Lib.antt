@@ -1,2 +1,4 @@
 pub mod FaultText
 pub mod CFaultText
+pub mod AsmFaultText
+pub mod ImageFaultText

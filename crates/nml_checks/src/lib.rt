@@ -2,8 +2,6 @@
 #![tactic(auto)]
 
 #[cfg(test)]
-mod images;
-#[cfg(test)]
 mod machines;
 #[cfg(test)]
 mod outside;

@@ -1,19 +1,22 @@
 -- The answer of a whole command, from what its steps come to.
-use Rattle.std.proofs.Common.{◌≡◌, inl, inr, ℕ, ◌<◌, [], length, List, Option, Some, None, Ok, Err, refl, sym, subst, arith}
-use Rattle.std.specs.Prelude.{IsTrue, nat_lt}
-use Rattle.std.proofs.lemmas.Bool.Decides.{nat_tests}
-use Rattle.std.proofs.lemmas.List.{length-map}
+use Rattle.std.proofs.Common.{arith, ◌≡◌, inl, inr, ℕ, [], List, Option, Some, None, Ok, Err, refl, sym, subst}
 use Rattle.std.specs.Global.{Vec}
-use Rattle.plain_tree.specs.Description.{description_of, field_of}
-use Rattle.plain_tree.specs.IsPlain.{IsPlain}
+use Rattle.attr_exec.specs.Ready.{NextFits}
+use Rattle.bit_sim.specs.Simulator.{AreInitial}
+use Rattle.image_file.specs.Seen.{picture_of}
+use Rattle.input_port.specs.Port.{AllFit}
+use Rattle.input_port.proofs.Taken.{none_fits, numbers_fit}
+use Rattle.nml_tree.specs.Refused.{IsChecked, IsTyped}
+use Rattle.nml_tree.specs.Table.{table}
+use Rattle.nml_tree.specs.declared.tree.Desc.{Desc}
 use Rattle.nml_suite.specs.Answer.{Answers, Moment, IsNamed}
 use Rattle.nml_suite.specs.Cause.{IsOther}
 use Rattle.nml_suite.specs.Coming.{ComesTo}
 use Rattle.nml_command.specs.Form.{Form, Check, Asm, Dis, Run, Cc, Ceval, Demo, named_to_read, named_to_write}
 use Rattle.nml_suite.specs.Reading.{Store}
 use Rattle.nml_suite.specs.Refusing.{refused, file_named, Settles, IsStored, IsReady}
-use Rattle.nml_suite.specs.Reply.{Reply, reply, not_built, told_run, usage_line}
-use Rattle.nml_suite.specs.Running.{TellsRun, opened}
+use Rattle.nml_suite.specs.Reply.{Reply, reply, not_built, starved, told_run, usage_line}
+use Rattle.nml_suite.specs.Running.{TellsRun, TellsRunOf, TellsNone, opened}
 use Rattle.nml_suite.specs.Told.{Told}
 use Rattle.nml_suite.specs.Work.{Work, Written, telling, Filed, Kept, Failed, Starved}
 use Rattle.nml_suite.specs.declared.ready.Ready.{Ready}
@@ -21,6 +24,7 @@ use Rattle.nml_suite.specs.declared.refusal.Refusal.{Refusal}
 use Rattle.nml_suite.specs.declared.status.Status.{Status}
 use Rattle.nml_suite.specs.declared.status.Status.TheVariants as statuses
 use Rattle.nml_suite.proofs.Arriving.{arrived, here}
+use Rattle.nml_suite.proofs.Images.{valid_begins}
 
 abbrev at : Store → Option (List ℕ) → ℕ → Moment
 at s taken faults = record { store = s; taken = taken; faults = faults }
@@ -81,21 +85,30 @@ unsaved_told b m n t u f g form i bytes o e status is s stored told =
 
 -- ---- `run`
 
-pub run_told : (b n : Store) (t u : Option (List ℕ)) (f g : ℕ) (d i x : List ℕ) (steps : ℕ) (r : Ready) (status : Status) → IsReady b n d i x r.plain r.image
+-- what is ready to run
+abbrev IsReadyRun : Store → Store → List ℕ → List ℕ → List ℕ → Ready → Type 0
+IsReadyRun b n d i x r = IsReady b n d i x r.graph (picture_of r.image) r.numbers.items
+
+pub run_told : (b n : Store) (t u : Option (List ℕ)) (f g : ℕ) (d i x : List ℕ) (steps : ℕ) (r : Ready) (status : Status) → IsReadyRun b n d i x r
     → TellsRun (opened r) steps t u f g status → Answers (at b t f) (at n u g) (Some (Run d i x steps)) status
-run_told b n t u f g d i x steps r status a tells =
-    told_alone b n t u f g (Some (Run d i x steps)) (told_run tells.run) status
-    (arrived b n n _ _ _ _ _ (a.arrives steps) (here n [] _ _ (inl (tells.run, tells.runs, record { last = refl; is = refl })))) tells.told
+run_told b n t u f g d i x steps r status a (TellsRunOf run runs told) =
+    told_alone b n t u f g (Some (Run d i x steps)) (told_run run) status
+    (arrived b n n _ _ _ _ _ (a.arrives steps) (here n [] _ _ (inl (run, runs, record { last = refl; is = refl })))) told
+run_told b n t u f g d i x steps r status a (TellsNone told) =
+    told_alone b n t u f g (Some (Run d i x steps)) starved status (arrived b n n _ _ _ _ _ (a.arrives steps) (here n [] _ _ (inr refl))) told
 
--- what a run begins with is a plain description with PC
-pub ready_is_plain : (b n : Store) (d i x : List ℕ) (r : Ready) → IsReady b n d i x r.plain r.image → IsPlain (description_of r.plain)
-ready_is_plain b n d i x r a = a.described.built.plain.plain
+typed_of : (d : Desc) → IsChecked d → IsTyped d
+typed_of d checked k low h = checked.free k (omega (arith, low)) h
 
-some_regs : (n : ℕ) → IsTrue (nat_lt 0 n) → 0 < n
-some_regs n h = grind (arith, nat_tests)
+-- it begins with initial values that are right, and its numbers are of the input's type
+pub ready_begins : (b n : Store) (d i x : List ℕ) (r : Ready) → IsReadyRun b n d i x r → AreInitial (table r.graph.desc) r.image.inits.items
+ready_begins b n d i x r a = valid_begins (table r.graph.desc) r.graph.word_bits r.image a.is.valid
 
-pub ready_has_pc : (b n : Store) (d i x : List ℕ) (r : Ready) → IsReady b n d i x r.plain r.image → 0 < length r.plain.regs.items
-ready_has_pc b n d i x r a = omega (arith, some_regs _ a.described.built.built, length-map r.plain.regs.items field_of)
+pub ready_fits : (b n : Store) (d i x : List ℕ) (r : Ready) → IsReadyRun b n d i x r → AllFit (table r.graph.desc) r.numbers.items
+ready_fits b n d i x r a = numbers_fit r.graph.desc a.entry r.numbers.items (typed_of r.graph.desc a.whole.checked) a.numbers_are
+
+pub ready_none : (b n : Store) (d i x : List ℕ) (r : Ready) → IsReadyRun b n d i x r → NextFits (table r.graph.desc) None
+ready_none b n d i x r a = none_fits r.graph.desc (typed_of r.graph.desc a.whole.checked)
 
 -- ---- other words
 
@@ -106,7 +119,7 @@ other_told s t u f g None status o told = absurd o
 other_told s t u f g (Some (Asm d c i)) status o told = absurd o
 other_told s t u f g (Some (Run d i x n)) status o told = absurd o
 other_told s t u f g (Some (Check d)) status o told = absurd o
-other_told s t u f g (Some (Dis d i)) status o told = told_alone s s t u f g (Some (Dis d i)) not_built status (here s _ _ _ (inl (record { last = refl; is = refl }))) told
+other_told s t u f g (Some (Dis d i)) status o told = absurd o
 other_told s t u f g (Some (Cc d c i)) status o told = told_alone s s t u f g (Some (Cc d c i)) not_built status (here s _ _ _ (inl (record { last = refl; is = refl }))) told
 other_told s t u f g (Some (Ceval d c x n)) status o told = absurd o
 other_told s t u f g (Some (Demo k)) status o told = told_alone s s t u f g (Some (Demo k)) not_built status (here s _ _ _ (inl (record { last = refl; is = refl }))) told

@@ -1,27 +1,32 @@
 -- How the steps of a command are put together: the first files lead to what the rest comes to.
-use Rattle.std.proofs.Common.{Some, ◌≡◌, ◌⊎◌, inl, inr, ℕ, List, [], ◌∷◌, ◌++◌, ℤ, None, Result, Ok, Err, refl, sym, ap, subst, append_assoc, true, false}
-use Rattle.plain_tree.specs.Description.{Description}
+use Rattle.std.proofs.Common.{Option, Some, ◌≡◌, ◌⊎◌, inl, inr, ℕ, List, [], ◌∷◌, ◌++◌, ℤ, None, Result, Ok, Err, refl, sym, ap, ◌∙◌, subst, append_assoc}
+use Rattle.sha2.specs.Sha256.{sha256}
+use Rattle.nml_tree.specs.Table.{Table, table}
+use Rattle.nml_tree.specs.declared.tree.Desc.{Desc}
+use Rattle.image_file.specs.File.{Picture, file}
 use Rattle.image_file.specs.Seen.{picture_of}
 use Rattle.image_file.specs.declared.image.Image.{Image}
-use Rattle.plain_tools.specs.PlainText.{lines}
+use Rattle.isg_graph.specs.Graph.{Graph}
 use Rattle.nml_suite.specs.Answer.{AreNamed}
-use Rattle.nml_suite.specs.Coming.{SumsUp, Summed, Opens, Short, Opened, Accepts, Faulty, Accepted, Simplifies, Other, Plain, AssemblesTo, NotPlain, NoMatch, Words, Loads, NoImage, Loaded, RunsTo, Input, Ran, IsImageOf, first_input, Targets, NoTarget, Targeted, Compiles, FaultyProgram, SoundProgram, EvaluatesTo, BadNumber, Evaluated}
+use Rattle.nml_suite.specs.Coming.{SumsUp, Summed, Opens, Short, Opened, Accepts, Faulty, Accepted, Sizes, Sized, AssemblesTo, FaultyText, Words, Loads, FaultyImage, Loaded, DisassemblesTo, Shown, RunsTo, Input, Ran, Targets, NoTarget, Targeted, Compiles, FaultyProgram, SoundProgram, EvaluatesTo, BadNumber, Evaluated, initials, made, picture}
 use Rattle.nml_target.specs.Target.{target}
+use Rattle.nk_base.specs.declared.number.Ty.{Ty}
 use Rattle.nk_base.specs.declared.number.Ty.TheVariants as ty
 use Rattle.input_lines.specs.Input.{numbers}
+use Rattle.input_port.specs.Port.{input_type}
 use Rattle.c_tree.specs.declared.program.CTree.{CTree}
 use Rattle.c_tree.specs.Meaning.{outcome}
 use Rattle.c_tree.specs.Resolve.{resolved}
 use Rattle.nml_suite.specs.Programs.{IsProgram}
-use Rattle.nml_suite.specs.Described.{IsAccepted, Describes}
-use Rattle.nml_tree.specs.declared.tree.Desc.{Desc}
+use Rattle.nml_suite.specs.Described.{IsAccepted}
 use Rattle.nml_types.specs.declared.checking.Summary.{Summary}
 use Rattle.nml_suite.specs.Reading.{Store, Reading, Got, IsShort, Asked, IsRead}
 use Rattle.nml_suite.specs.Reply.{assembled, starved, unread, told_outcome}
-use Rattle.nml_suite.specs.Refusing.{refused, settled, summed, Settles, Arrives, IsUnread, IsReadAs, IsSummedUp, IsDescribed, IsAssembledText, IsFound, IsBlankInput, TellsRunOf, IsTargeted, IsCompiled, IsNumbered}
+use Rattle.nml_suite.specs.Refusing.{refused, settled, shown, summed, Settles, Arrives, IsUnread, IsReadAs, IsGraphOf, IsSummedUp, IsAssembledText, IsFound, IsShown, TellsRunOf, IsTargeted, IsCompiled, IsNumbered}
 use Rattle.nml_suite.specs.Work.{Work, telling}
 use Rattle.nml_suite.specs.declared.assemble.Assembled.{Assembled}
 use Rattle.nml_suite.specs.declared.refusal.Refusal.{Refusal}
+use Rattle.nml_suite.proofs.Images.{picture_is}
 use Rattle.nml_suite.proofs.ReadRows.{reads_append}
 
 led : (C G : Type 0) (w : Work) → (G → C) → G ⊎ (w ≡ telling starved) → C ⊎ (w ≡ telling starved)
@@ -82,64 +87,79 @@ not_opened b n name names goes e u = record {
 
 -- ---- a description
 
-pub described : (b : Store) (names : List (List ℕ)) (name bytes : List ℕ) (d : Description) (goes : Description → List Asked → Work → Type 0)
-    → Describes bytes d → Arrives b b names names (Accepts false name bytes (λ tree. Simplifies name tree goes)) (goes d)
-described b names name bytes d goes h = on b names _ (goes d) (λ more w g. Accepted h.tree h.accepted (Plain d h.built g))
-
-pub not_described : (b : Store) (names : List (List ℕ)) (name bytes : List ℕ) (e : Refusal) (goes : Description → List Asked → Work → Type 0)
-    → IsDescribed name bytes (Err e) → Settles b b names (Accepts false name bytes (λ tree. Simplifies name tree goes)) (telling (refused e))
-not_described b names name bytes e goes (inl wants) = here b names _ _ (inr (ap telling wants))
-not_described b names name bytes e goes (inr (inl x)) = here b names _ _ (inl (Faulty x.fault x.faulty (record { last = refl; is = ap telling x.is })))
-not_described b names name bytes e goes (inr (inr x)) =
-    here b names _ _ (inl (Accepted x.tree x.accepted (Other x.none (record { last = refl; is = ap telling x.is }))))
-
--- ---- `check`
+pub accepted : (b : Store) (names : List (List ℕ)) (name bytes : List ℕ) (tree : Desc) (goes : Desc → List Asked → Work → Type 0) → IsAccepted bytes tree
+    → Arrives b b names names (Accepts name bytes goes) (goes tree)
+accepted b names name bytes tree goes a = on b names _ (goes tree) (λ more w g. Accepted tree a g)
 
 pub not_accepted : (b : Store) (names : List (List ℕ)) (name bytes : List ℕ) (e : Refusal) (goes : Desc → List Asked → Work → Type 0)
-    → IsReadAs true name bytes (Err e) → Settles b b names (Accepts true name bytes goes) (telling (refused e))
+    → IsReadAs name bytes (Err e) → Settles b b names (Accepts name bytes goes) (telling (refused e))
 not_accepted b names name bytes e goes (inl wants) = here b names _ _ (inr (ap telling wants))
 not_accepted b names name bytes e goes (inr x) = here b names _ _ (inl (Faulty x.fault x.faulty (record { last = refl; is = ap telling x.is })))
 
-pub summed_up : (b : Store) (name bytes : List ℕ) (tree : Desc) (r : Result Summary Refusal) → IsAccepted true bytes tree → IsSummedUp tree r
-    → Settles b b [] (Accepts true name bytes SumsUp) (summed r)
+-- as a machine
+pub described : (b : Store) (names : List (List ℕ)) (name bytes : List ℕ) (g : Graph) (goes : Desc → ℕ → List Asked → Work → Type 0) → IsGraphOf name bytes (Ok g)
+    → Arrives b b names names (Accepts name bytes (λ tree. Sizes tree (goes tree))) (goes g.desc g.word_bits)
+described b names name bytes g goes h = on b names _ (goes g.desc g.word_bits) (λ more w go. Accepted g.desc h.0 (Sized g.word_bits h.1.word_bits_are go))
+
+pub not_described : (b : Store) (names : List (List ℕ)) (name bytes : List ℕ) (e : Refusal) (goes : Desc → List Asked → Work → Type 0)
+    → IsGraphOf name bytes (Err e) → Settles b b names (Accepts name bytes goes) (telling (refused e))
+not_described b names name bytes e goes h = not_accepted b names name bytes e goes h
+
+-- ---- `check`
+
+pub summed_up : (b : Store) (name bytes : List ℕ) (tree : Desc) (r : Result Summary Refusal) → IsAccepted bytes tree → IsSummedUp tree r
+    → Settles b b [] (Accepts name bytes SumsUp) (summed r)
 summed_up b name bytes tree (Ok s) a h = here b [] _ _ (inl (Accepted tree a (Summed s.count s.width h (record { last = refl; is = refl }))))
 summed_up b name bytes tree (Err e) a h = here b [] _ _ (inr (ap telling h))
 
 -- ---- `asm`
 
-pub assembled_text : (b : Store) (s i bytes : List ℕ) (d : Description) (text : List ℕ) (r : Result Assembled Refusal) → IsAssembledText bytes d s text r
-    → Settles b b [] (AssemblesTo s i bytes d text) (settled i r)
-assembled_text b s i bytes d text (Ok all) z =
-    here b [] _ _ (inl (Words z.fit z.words z.assembles refl
-    (λ j. record { file = Some (z.made_of.file_is i j); reply = assembled (z.made_of.width_is j) (z.made_of.words_are j) })))
-assembled_text b s i bytes d text (Err e) (inl wants) = here b [] _ _ (inr (ap telling wants))
-assembled_text b s i bytes d text (Err e) (inr (inl z)) = here b [] _ _ (inl (NotPlain z.other (record { last = refl; is = ap telling z.is })))
-assembled_text b s i bytes d text (Err e) (inr (inr z)) = here b [] _ _ (inl (NoMatch z.fit z.line z.fails (record { last = refl; is = ap telling z.is })))
+-- what comes of an image and its file
+made_is : (i : List ℕ) (all : Assembled) (p : Picture) → all.file.items ≡ file (picture_of all.image) → p ≡ picture_of all.image → settled i (Ok all) ≡ made i p
+made_is i all p is same =
+    ap (λ bytes. record { file = Some (record { name = i; bytes = bytes }); reply = assembled all.image.width all.image.words.items }) is ∙ ap (made i) (sym same)
+
+pub assembled_text : (b : Store) (s i bytes : List ℕ) (g : Graph) (text : List ℕ) (r : Result Assembled Refusal) → IsAssembledText bytes g s text r
+    → Settles b b [] (AssemblesTo s i bytes (table g.desc) g.word_bits text) (settled i r)
+assembled_text b s i bytes g text (Ok all) z =
+    let p = picture_of all.image in
+    here b [] _ _ (inl (Words p.words (initials p) z.0.assembles refl (made_is i all (picture bytes g.word_bits p.words (initials p)) z.1 (picture_is g bytes text p z.0))))
+assembled_text b s i bytes g text (Err e) (inl wants) = here b [] _ _ (inr (ap telling wants))
+assembled_text b s i bytes g text (Err e) (inr z) = here b [] _ _ (inl (FaultyText z.fault z.some z.faulty (record { last = refl; is = ap telling z.is })))
+
+-- ---- images
+
+pub loaded : (b : Store) (names : List (List ℕ)) (name bytes : List ℕ) (g : Graph) (bits : List ℕ) (i : Image) (goes : Picture → List Asked → Work → Type 0)
+    → IsFound bytes g name bits (Ok i) → Arrives b b names names (Loads name bytes (table g.desc) g.word_bits bits goes) (goes (picture_of i))
+loaded b names name bytes g bits i goes h = on b names _ (goes (picture_of i)) (λ more w go. Loaded (picture_of i) h go)
+
+pub not_loaded : (b : Store) (names : List (List ℕ)) (name bytes : List ℕ) (g : Graph) (bits : List ℕ) (e : Refusal) (goes : Picture → List Asked → Work → Type 0)
+    → IsFound bytes g name bits (Err e) → Settles b b names (Loads name bytes (table g.desc) g.word_bits bits goes) (telling (refused e))
+not_loaded b names name bytes g bits e goes (inl wants) = here b names _ _ (inr (ap telling wants))
+not_loaded b names name bytes g bits e goes (inr x) = here b names _ _ (inl (FaultyImage x.fault x.some x.faulty (record { last = refl; is = ap telling x.is })))
+
+-- ---- `dis`
+
+pub shown_text : (b : Store) (g : Graph) (i : Picture) (r : Result (List ℕ) Refusal) → IsShown g i r → Settles b b [] (DisassemblesTo (table g.desc) g.word_bits i) (shown r)
+shown_text b g i (Ok text) h = here b [] _ _ (inl (Shown text h (record { last = refl; is = refl })))
+shown_text b g i (Err e) wants = here b [] _ _ (inr (ap telling wants))
 
 -- ---- `run`
 
-pub loaded : (b : Store) (names : List (List ℕ)) (name bytes : List ℕ) (d : Description) (bits : List ℕ) (i : Image) (goes : List ℕ → List Asked → Work → Type 0)
-    → IsImageOf bytes d bits (picture_of i) → Arrives b b names names (Loads name bytes d bits goes) (goes i.words.items)
-loaded b names name bytes d bits i goes h = on b names _ (goes i.words.items) (λ more w g. Loaded (picture_of i) h g)
+-- the input's type, of the description that was found
+pub port_is : (port : Option Ty) (a b d : Desc) → port ≡ input_type (table a) → a ≡ b → b ≡ d → port ≡ input_type (table d)
+port_is port a b d is e f = is ∙ ap (λ (x : Desc). input_type (table x)) (e ∙ f)
 
-pub not_loaded : (b : Store) (names : List (List ℕ)) (name bytes : List ℕ) (d : Description) (bits : List ℕ) (e : Refusal) (goes : List ℕ → List Asked → Work → Type 0)
-    → IsFound bytes d name bits (Err e) → Settles b b names (Loads name bytes d bits goes) (telling (refused e))
-not_loaded b names name bytes d bits e goes (inl wants) = here b names _ _ (inr (ap telling wants))
-not_loaded b names name bytes d bits e goes (inr x) = here b names _ _ (inl (NoImage x.1 (record { last = refl; is = ap telling x.0 })))
+pub entered : (b : Store) (x : List ℕ) (steps : ℕ) (t : Table) (i : Picture) (text : List ℕ) (found : List ℤ) → numbers (input_type t) text ≡ Ok found
+    → Arrives b b [] [] (RunsTo x steps t i text) (TellsRunOf steps t i found)
+entered b x steps t i text found h = on b [] _ (TellsRunOf steps t i found) (λ more w r. Ran found h r.0 r.1 r.2)
 
-pub blank : (b : Store) (x : List ℕ) (steps : ℕ) (d : Description) (words text : List ℕ) → first_input 1 (lines text) ≡ None
-    → Arrives b b [] [] (RunsTo x steps d words text) (TellsRunOf steps d words)
-blank b x steps d words text h = on b [] _ (TellsRunOf steps d words) (λ more w r. Ran h r.0 r.1 r.2)
-
-pub not_blank : (b : Store) (x : List ℕ) (steps : ℕ) (d : Description) (words text : List ℕ) (e : Refusal) → IsBlankInput x text (Err e)
-    → Settles b b [] (RunsTo x steps d words text) (telling (refused e))
-not_blank b x steps d words text e h = here b [] _ _ (inl (Input h.0 h.1 (record { last = refl; is = ap telling h.2 })))
+pub not_entered : (b : Store) (x : List ℕ) (steps : ℕ) (t : Table) (i : Picture) (text : List ℕ) (e : Refusal) → IsNumbered x (input_type t) text (Err e)
+    → Settles b b [] (RunsTo x steps t i text) (telling (refused e))
+not_entered b x steps t i text e (inl wants) = here b [] _ _ (inr (ap telling wants))
+not_entered b x steps t i text e (inr z) = here b [] _ _ (inl (Input z.line z.bad (record { last = refl; is = ap telling z.is })))
 
 -- ---- `ceval`
-
-pub accepted : (b : Store) (names : List (List ℕ)) (name bytes : List ℕ) (tree : Desc) (goes : Desc → List Asked → Work → Type 0) → IsAccepted true bytes tree
-    → Arrives b b names names (Accepts true name bytes goes) (goes tree)
-accepted b names name bytes tree goes a = on b names _ (goes tree) (λ more w g. Accepted tree a g)
 
 pub targeted : (b : Store) (names : List (List ℕ)) (name : List ℕ) (tree : Desc) (n : ℕ) (goes : ℕ → List Asked → Work → Type 0) → target tree ≡ Ok n
     → Arrives b b names names (Targets name tree goes) (goes n)
@@ -164,7 +184,7 @@ pub numbered : (b : Store) (x : List ℕ) (turns n bits : ℕ) (tree : CTree) (t
 numbered b x turns n bits tree text found same is =
     here b [] _ _ (inl (Evaluated found is (record { last = refl; is = ap (λ k. telling (told_outcome (outcome (resolved tree) k found turns))) same })))
 
-pub not_numbered : (b : Store) (x : List ℕ) (turns n : ℕ) (tree : CTree) (text : List ℕ) (e : Refusal) → IsNumbered x n text (Err e)
+pub not_numbered : (b : Store) (x : List ℕ) (turns n : ℕ) (tree : CTree) (text : List ℕ) (e : Refusal) → IsNumbered x (Some (ty.Int n)) text (Err e)
     → Settles b b [] (EvaluatesTo x turns n tree text) (telling (refused e))
 not_numbered b x turns n tree text e (inl wants) = here b [] _ _ (inr (ap telling wants))
 not_numbered b x turns n tree text e (inr z) = here b [] _ _ (inl (BadNumber z.line z.bad (record { last = refl; is = ap telling z.is })))

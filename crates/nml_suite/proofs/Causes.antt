@@ -1,22 +1,31 @@
 -- When each answer of the top call comes, from what it answers.
-use Rattle.std.proofs.Common.{◌≡◌, ◌⊎◌, ◌≤◌, ◌+◌, ℕ, zero, suc, List, [], ◌∷◌, ℤ, Ok, length, Option, Some, None, refl, sym, ap, ◌∙◌, subst, inl, inr, arith}
-use Rattle.std.specs.Prelude.{slice_get, true, false}
+use Rattle.std.proofs.Common.{◌≡◌, ◌⊎◌, ◌≤◌, ◌+◌, ℕ, zero, suc, List, [], ◌∷◌, map, ℤ, pos, negsuc, Ok, length, Option, Some, None, refl, sym, ap, ◌∙◌, subst, inl, inr, arith}
+use Rattle.std.specs.Prelude.{slice_get}
+use Rattle.sha2.specs.Sha256.{sha256}
 use Rattle.nk_outside.specs.Held.{Reads}
 use Rattle.nk_outside.specs.Taken.{Took}
-use Rattle.plain_tree.specs.Description.{Description}
 use Rattle.nml_tree.specs.declared.tree.Desc.{Desc}
-use Rattle.image_file.specs.File.{Picture}
-use Rattle.plain_tools.specs.Machine.{Stop, Running, Halted, NoWord, BadWord}
-use Rattle.plain_tools.specs.Machine as machine
-use Rattle.plain_tools.specs.PlainText.{lines}
+use Rattle.nml_tree.specs.Machine.{Initial, RunOutcome, RunsImage, Stop, Running, Halted, Wanted, NoWord, BadWord}
+use Rattle.nml_tree.specs.Table.{Table, table}
+use Rattle.nml_tree.specs.Valid.{IsWordWidth}
+use Rattle.image_file.specs.File.{Picture, Init}
+use Rattle.image_file.specs.Measured.{measures, stored, initial}
+use Rattle.image_file.specs.Valid.{IsValid, IsImageOf}
+use Rattle.image_file.proofs.OneFile.{init_is}
+use Rattle.asm_text.specs.Answer.{IsAssembled, AreRight}
+use Rattle.asm_text.specs.Canonical.{IsCanonical}
+use Rattle.asm_text.proofs.ReadNames.{storage_names}
+use Rattle.asm_text.proofs.Right.{right}
+use Rattle.asm_text.proofs.RoundTrip.{round_trip}
 use Rattle.nml_suite.specs.Answer.{Moment, Answers}
-use Rattle.nml_suite.specs.Cause.{HasCause, is_whole, HasBytes, HasDescription, HasOtherDescription, HasMachine, HasImage, HasTree, HasSource, HasProgram, outcome_of, IsNotBuilt, Command, Assembled, Text, Machine, Image, IsUsage}
-use Rattle.nml_suite.specs.Coming.{EndsWith, SumsUp, Summed, Opens, Short, Opened, Accepts, Faulty, Accepted, Simplifies, Other, Plain, AssemblesTo, NotPlain, NoMatch, Words, Loads, NoImage, Loaded, RunsTo, Input, Ran, IsImageOf, Targets, NoTarget, Targeted, Compiles, FaultyProgram, SoundProgram, EvaluatesTo, BadNumber, Evaluated, CheckComesTo, AsmComesTo, RunComesTo, CevalComesTo, ComesTo, first_input}
+use Rattle.nml_suite.specs.Cause.{HasCause, HasBytes, HasDescription, HasImageFile, HasImage, HasMachine, HasTree, HasSource, HasProgram, outcome_of, IsUsage}
+use Rattle.nml_suite.specs.Coming.{EndsWith, SumsUp, Summed, Opens, Short, Opened, Accepts, Faulty, Accepted, Sizes, Sized, AssemblesTo, FaultyText, Words, Loads, FaultyImage, Loaded, initials, DisassemblesTo, Shown, RunsTo, Input, Ran, Targets, NoTarget, Targeted, Compiles, FaultyProgram, SoundProgram, EvaluatesTo, BadNumber, Evaluated, CheckComesTo, AsmComesTo, DisComesTo, RunComesTo, CevalComesTo, ComesTo}
 use Rattle.nml_suite.specs.Described.{IsAccepted}
 use Rattle.nml_suite.specs.Files.{HaveCauses, Leaves}
 use Rattle.nml_target.specs.Target.{target}
 use Rattle.nk_base.specs.declared.number.Ty.TheVariants as ty
 use Rattle.input_lines.specs.Input.{numbers}
+use Rattle.input_port.specs.Port.{input_type}
 use Rattle.nk_outside.specs.declared.stop.Stop as outside
 use Rattle.nk_outside.specs.declared.stop.Stop.TheVariants as ends
 use Rattle.c_tree.specs.declared.program.CTree.{CTree}
@@ -31,6 +40,26 @@ use Rattle.nml_suite.specs.declared.status.Status.{Status}
 use Rattle.nml_suite.specs.declared.status.Status.TheVariants as statuses
 use Rattle.nml_suite.proofs.Filing.{calls_without, counted_by, leaves_of}
 use Rattle.nml_suite.proofs.ReadRows.{Later, causes, reads_later}
+
+-- ---- canonical texts
+
+-- initial values are the same once stored again
+pub stored_back : (is : List Init) → map stored (map initial is) ≡ is
+stored_back [] = refl
+stored_back (i ∷ is) = ap (λ (j : Init). j ∷ map stored (map initial is)) (init_is (stored (initial i)) i refl refl refl) ∙ ap (λ js. i ∷ js) (stored_back is)
+
+-- the words and the initial values of a valid image are right, whatever digest an image of them carries
+pub right_of : (t : Table) (width : ℕ) (i : Picture) → IsValid (measures t width) i → AreRight t width i.words (initials i)
+right_of t width i v digest =
+    subst (λ is. IsValid (measures t width) (record { digest = digest; width = width; words = i.words; inits = is })) (sym (stored_back i.inits))
+    (record { width_is = refl; count = v.count; fit = v.fit; cells = v.cells; order = v.order })
+
+-- on a description that is accepted, a canonical text of what is right is assembled to just that
+pub assembled_back : (bytes : List ℕ) (tree : Desc) (width : ℕ) (words text : List ℕ) (inits : List Initial) → IsAccepted bytes tree → IsWordWidth (table tree) width → AreRight (table tree) width words inits
+    → IsCanonical (table tree) width words inits text → IsAssembled (table tree) width text words inits
+assembled_back bytes tree width words text inits a wide good c = round_trip tree width words text inits a.right (storage_names tree bytes a.spelled.is) wide good c
+
+-- ---- causes
 
 -- a call that told the whole text has its cause
 abbrev Owes : Moment → Moment → Option Form → Reply → Type 0
@@ -71,24 +100,20 @@ opens_owe b n form k name goes xs w named calls c h (Opened bytes more e g) =
     h bytes more d.0 (fewer b n k (name, Got bytes) more w m) d.1 g
 
 accepts_owe : (b n : Moment) (form : Option Form) (f : HasBytes b form 0) (goes : Desc → List Asked → Work → Type 0) (xs : List Asked) (w : Work)
-    → ((tree : Desc) → IsAccepted (is_whole form) f.bytes tree → goes tree xs w → Owes b n form w.reply) → Accepts (is_whole form) f.name f.bytes goes xs w → Owes b n form w.reply
+    → ((tree : Desc) → IsAccepted f.bytes tree → goes tree xs w → Owes b n form w.reply) → Accepts f.name f.bytes goes xs w → Owes b n form w.reply
 accepts_owe b n form f goes xs w h (Faulty fault x e) = ends_owe b n form xs w _ e (λ t. record { file = f; fault = fault; faulty = x; told = t })
 accepts_owe b n form f goes xs w h (Accepted tree a g) = h tree a g
 
-simplifies_owe : (b n : Moment) (form : Option Form) (f : HasBytes b form 0) (tree : Desc) (goes : Description → List Asked → Work → Type 0) (xs : List Asked) (w : Work)
-    → IsAccepted false f.bytes tree → (HasOtherDescription b n form → IsNotBuilt b n form)
-    → ((d : HasDescription b form) → d.file ≡ f → goes d.plain xs w → Owes b n form w.reply)
-    → Simplifies f.name tree goes xs w → Owes b n form w.reply
-simplifies_owe b n form f tree goes xs w a row h (Other none e) = ends_owe b n form xs w _ e (λ t. row (record { file = f; tree = tree; accepted = a; none = none; told = t }))
-simplifies_owe b n form f tree goes xs w a row h (Plain d built g) =
-    h (record { file = f; plain = d; described = record { tree = tree; accepted = a; built = built } }) refl g
+sizes_owe : (b n : Moment) (form : Option Form) (tree : Desc) (goes : ℕ → List Asked → Work → Type 0) (xs : List Asked) (w : Work)
+    → ((width : ℕ) → IsWordWidth (table tree) width → goes width xs w → Owes b n form w.reply) → Sizes tree goes xs w → Owes b n form w.reply
+sizes_owe b n form tree goes xs w h (Sized width is g) = h width is g
 
 -- ---- `check`
 
-sums_owe : (b n : Moment) (d : List ℕ) (f : HasBytes b (Some (Check d)) 0) (tree : Desc) (xs : List Asked) (w : Work) → IsAccepted true f.bytes tree → SumsUp tree xs w
+sums_owe : (b n : Moment) (d : List ℕ) (f : HasBytes b (Some (Check d)) 0) (tree : Desc) (xs : List Asked) (w : Work) → IsAccepted f.bytes tree → SumsUp tree xs w
     → Owes b n (Some (Check d)) w.reply
 sums_owe b n d f tree xs w a (Summed count width s e) =
-    ends_owe b n (Some (Check d)) xs w _ e (λ t. inr (inr (inl (record { check = tt; file = f; tree = tree; is = a; count = count; width = width; summary = s; told = t }))))
+    ends_owe b n (Some (Check d)) xs w _ e (λ t. inr (inr (inr (inl (record { check = tt; file = f; tree = tree; is = a; count = count; width = width; summary = s; told = t })))))
 
 check_owes : (b n : Moment) (d : List ℕ) (xs : List Asked) (w : Work) → CallsBehind b n 0 xs w → HaveCauses b.store n.store xs → CheckComesTo d xs w
     → Owes b n (Some (Check d)) w.reply
@@ -102,21 +127,21 @@ check_owes b n d xs w calls c =
 -- ---- `asm`
 
 text_owes : (b n : Moment) (d s i : List ℕ) (x : HasDescription b (Some (Asm d s i))) (f : HasBytes b (Some (Asm d s i)) 1) (xs : List Asked) (w : Work)
-    → Leaves b.store n.store w.file → AssemblesTo f.name i x.file.bytes x.plain f.bytes xs w → Owes b n (Some (Asm d s i)) w.reply
-text_owes b n d s i x f xs w saved (NotPlain c e) =
-    ends_owe b n (Some (Asm d s i)) xs w _ e (λ t. Text (record { files = record { asm = tt; description = x; text = f }; other = c; told = t }))
-text_owes b n d s i x f xs w saved (NoMatch c line l e) =
-    ends_owe b n (Some (Asm d s i)) xs w _ e (λ t. inl (record { files = record { asm = tt; description = x; text = f }; fit = c; line = line; fails = l; told = t }))
-text_owes b n d s i x f xs w saved (Words c words l last e) = λ t.
+    → Leaves b.store n.store w.file → AssemblesTo f.name i x.file.bytes (table x.tree) x.width f.bytes xs w → Owes b n (Some (Asm d s i)) w.reply
+text_owes b n d s i x f xs w saved (FaultyText fault some faulty e) =
+    ends_owe b n (Some (Asm d s i)) xs w _ e
+    (λ t. inl (record { files = record { asm = tt; description = x; text = f }; fault = fault; some = some; faulty = faulty; told = t }))
+text_owes b n d s i x f xs w saved (Words words inits h last e) = λ t.
     subst (λ (k : Work). HasCause b n (Some (Asm d s i)) k.reply.status) (sym e) (inl (record {
       files = record { asm = tt; description = x; text = f };
-      fit = c;
       words = words;
-      assembles = l;
+      inits = inits;
+      assembles = h;
       image = i;
       named = refl;
       saved = subst (λ (k : Work). Leaves b.store n.store k.file) e saved;
       told = subst (λ (k : Work). Took b.taken n.taken k.reply.text) e t;
+      round_trip = λ text c. assembled_back x.file.bytes x.tree x.width words text inits x.is x.word_width (right x.tree x.width f.bytes words inits x.is.right x.word_width h) c;
     }))
 
 asm_owes : (b n : Moment) (d s i : List ℕ) (xs : List Asked) (w : Work) → CallsBehind b n 0 xs w → HaveCauses b.store n.store xs → Leaves b.store n.store w.file
@@ -127,37 +152,88 @@ asm_owes b n d s i xs w calls c saved =
     (λ bytes more r calls_more c_more.
     let f : HasBytes b form 0 = record { name = d; named = refl; bytes = bytes; read = r } in
     accepts_owe b n form f _ more w
-    (λ tree a. simplifies_owe b n form f tree _ more w a (Assembled tt)
-    (λ x is. opens_owe b n form 1 s _ more w refl calls_more c_more
-    (λ text rest t calls_rest c_rest g.
-    text_owes b n d s i x (record { name = s; named = refl; bytes = text; read = t }) rest w saved
-    (subst (λ (y : HasBytes b form 0). AssemblesTo s i y.bytes x.plain text rest w) (sym is) g)))))
+    (λ tree a. sizes_owe b n form tree _ more w
+    (λ width wide.
+    let x : HasDescription b form = record { file = f; tree = tree; is = a; width = width; word_width = wide } in
+    opens_owe b n form 1 s _ more w refl calls_more c_more
+    (λ text rest t calls_rest c_rest. text_owes b n d s i x (record { name = s; named = refl; bytes = text; read = t }) rest w saved))))
+
+-- ---- images
+
+-- the image that was found
+abbrev FoundImage : (b : Moment) (form : Option Form) → HasImageFile b form → Type 0
+FoundImage b form m = (i : Picture) × IsImageOf (measures (table m.description.tree) m.description.width) (sha256 m.description.file.bytes) m.image.bytes i
+
+loads_owe : (b n : Moment) (form : Option Form) (m : HasImageFile b form) (goes : Picture → List Asked → Work → Type 0) (xs : List Asked) (w : Work)
+    → ((l : FoundImage b form m) → goes l.0 xs w → Owes b n form w.reply)
+    → Loads m.image.name m.description.file.bytes (table m.description.tree) m.description.width m.image.bytes goes xs w → Owes b n form w.reply
+loads_owe b n form m goes xs w h (FaultyImage fault some faulty e) =
+    ends_owe b n form xs w _ e (λ t. record { files = m; fault = fault; some = some; faulty = faulty; told = t })
+loads_owe b n form m goes xs w h (Loaded i is g) = h (i, is) g
+
+-- ---- `dis`
+
+shows_owe : (b n : Moment) (d i : List ℕ) (l : HasImage b (Some (Dis d i))) (xs : List Asked) (w : Work)
+    → DisassemblesTo (table l.files.description.tree) l.files.description.width l.picture xs w → Owes b n (Some (Dis d i)) w.reply
+shows_owe b n d i l xs w (Shown text c e) =
+    let x = l.files.description in
+    ends_owe b n (Some (Dis d i)) xs w _ e
+    (λ t. inr (inl (record {
+      dis = tt;
+      loaded = l;
+      text = text;
+      canonical = c;
+      told = t;
+      round_trip = assembled_back x.file.bytes x.tree x.width l.picture.words text (initials l.picture) x.is x.word_width (right_of (table x.tree) x.width l.picture l.is.valid) c;
+    })))
+
+dis_owes : (b n : Moment) (d i : List ℕ) (xs : List Asked) (w : Work) → CallsBehind b n 0 xs w → HaveCauses b.store n.store xs → DisComesTo d i xs w
+    → Owes b n (Some (Dis d i)) w.reply
+dis_owes b n d i xs w calls c =
+    let form = Some (Dis d i) in
+    opens_owe b n form 0 d _ xs w refl calls c
+    (λ bytes more r calls_more c_more.
+    let f : HasBytes b form 0 = record { name = d; named = refl; bytes = bytes; read = r } in
+    accepts_owe b n form f _ more w
+    (λ tree a. sizes_owe b n form tree _ more w
+    (λ width wide.
+    let x : HasDescription b form = record { file = f; tree = tree; is = a; width = width; word_width = wide } in
+    opens_owe b n form 1 i _ more w refl calls_more c_more
+    (λ bits rest s calls_rest c_rest.
+    let m : HasImageFile b form = record { of_image = tt; description = x; image = record { name = i; named = refl; bytes = bits; read = s } } in
+    loads_owe b n form m _ rest w (λ l. shows_owe b n d i (record { files = m; picture = l.0; is = l.1 }) rest w)))))
 
 -- ---- `run`
 
-stop_owes : (b n : Moment) (form : Option Form) (l : HasImage b form) (r : machine.RunOutcome) (stop : Stop) → first_input 1 (lines l.input.bytes) ≡ None
-    → machine.Runs l.files.description.plain l.picture.words l.files.steps (machine.beginning l.files.description.plain) r → r.stop ≡ stop → Took b.taken n.taken (told_run r).text
-    → HasCause b n form (stop_status stop)
-stop_owes b n form l r Running blank runs e t = inl (record { loaded = l; blank = blank; run = r; runs = runs; stop = e; told = t })
-stop_owes b n form l r (Halted zero) blank runs e t = inr (inl (record { loaded = l; blank = blank; run = r; runs = runs; stop = e; told = t }))
-stop_owes b n form l r (Halted (suc code)) blank runs e t = inl (record { loaded = l; blank = blank; run = r; runs = runs; stop = (code, e); told = t })
-stop_owes b n form l r (NoWord place) blank runs e t = record { loaded = l; blank = blank; run = r; runs = runs; stop = (place, e); told = t }
-stop_owes b n form l r (BadWord place) blank runs e t = record { loaded = l; blank = blank; run = r; runs = runs; stop = (place, e); told = t }
+-- the run of the image on these numbers comes to this
+abbrev RunsSo : (b : Moment) (form : Option Form) → HasMachine b form → List ℤ → RunOutcome → Type 0
+RunsSo b form m found r = RunsImage (table m.loaded.files.description.tree) m.loaded.picture.words (initials m.loaded.picture) found m.steps r
 
-input_owes : (b n : Moment) (form : Option Form) (l : HasImage b form) (xs : List Asked) (w : Work)
-    → RunsTo l.input.name l.files.steps l.files.description.plain l.picture.words l.input.bytes xs w → Owes b n form w.reply
-input_owes b n form l xs w (Input line is e) = ends_owe b n form xs w _ e (λ t. inl (record { loaded = l; line = line; is = is; told = t }))
-input_owes b n form l xs w (Ran blank r runs e) = ends_owe b n form xs w _ e (λ t. stop_owes b n form l r r.stop blank runs refl t)
+-- codes other than 0
+above_zero : (code : ℕ) → pos (suc code) ≡ pos 0 → ⊥
+above_zero code e = absurd cc
 
--- the image that was found
-abbrev FoundImage : (b : Moment) (form : Option Form) → HasMachine b form → Type 0
-FoundImage b form m = (i : Picture) × IsImageOf m.description.file.bytes m.description.plain m.image.bytes i
+below_zero : (code : ℕ) → negsuc code ≡ pos 0 → ⊥
+below_zero code e = absurd cc
 
-bits_owe : (b n : Moment) (form : Option Form) (m : HasMachine b form) (goes : List ℕ → List Asked → Work → Type 0) (xs : List Asked) (w : Work)
-    → ((l : FoundImage b form m) → goes l.0.words xs w → Owes b n form w.reply)
-    → Loads m.image.name m.description.file.bytes m.description.plain m.image.bytes goes xs w → Owes b n form w.reply
-bits_owe b n form m goes xs w h (NoImage none e) = ends_owe b n form xs w _ e (λ t. Image (record { files = m; none = none; told = t }))
-bits_owe b n form m goes xs w h (Loaded i is g) = h (i, is) g
+stop_owes : (b n : Moment) (form : Option Form) (m : HasMachine b form) (found : List ℤ) (r : RunOutcome) (stop : Stop)
+    → numbers (input_type (table m.loaded.files.description.tree)) m.input.bytes ≡ Ok found → RunsSo b form m found r → r.stop ≡ stop
+    → Took b.taken n.taken (told_run r).text → HasCause b n form (stop_status stop)
+stop_owes b n form m found r Running is runs e t = inl (record { machine = m; found = found; is = is; run = r; runs = runs; stop = e; told = t })
+stop_owes b n form m found r (Halted (pos zero)) is runs e t =
+    inr (inr (inl (record { machine = m; found = found; is = is; run = r; runs = runs; stop = e; told = t })))
+stop_owes b n form m found r (Halted (pos (suc code))) is runs e t =
+    inl (record { machine = m; found = found; is = is; run = r; runs = runs; stop = (pos (suc code), e, above_zero code); told = t })
+stop_owes b n form m found r (Halted (negsuc code)) is runs e t =
+    inl (record { machine = m; found = found; is = is; run = r; runs = runs; stop = (negsuc code, e, below_zero code); told = t })
+stop_owes b n form m found r Wanted is runs e t = inl (record { machine = m; found = found; is = is; run = r; runs = runs; stop = e; told = t })
+stop_owes b n form m found r (NoWord place) is runs e t = record { machine = m; found = found; is = is; run = r; runs = runs; stop = (place, e); told = t }
+stop_owes b n form m found r (BadWord place) is runs e t = record { machine = m; found = found; is = is; run = r; runs = runs; stop = (place, e); told = t }
+
+input_owes : (b n : Moment) (form : Option Form) (m : HasMachine b form) (xs : List Asked) (w : Work)
+    → RunsTo m.input.name m.steps (table m.loaded.files.description.tree) m.loaded.picture m.input.bytes xs w → Owes b n form w.reply
+input_owes b n form m xs w (Input line is e) = ends_owe b n form xs w _ e (λ t. inl (record { machine = m; line = line; bad = is; told = t }))
+input_owes b n form m xs w (Ran found is r runs e) = ends_owe b n form xs w _ e (λ t. stop_owes b n form m found r r.stop is runs refl t)
 
 run_owes : (b n : Moment) (d i x : List ℕ) (steps : ℕ) (xs : List Asked) (w : Work) → CallsBehind b n 0 xs w → HaveCauses b.store n.store xs
     → RunComesTo d i x steps xs w → Owes b n (Some (Run d i x steps)) w.reply
@@ -167,15 +243,18 @@ run_owes b n d i x steps xs w calls c =
     (λ bytes more r calls_more c_more.
     let f : HasBytes b form 0 = record { name = d; named = refl; bytes = bytes; read = r } in
     accepts_owe b n form f _ more w
-    (λ tree a. simplifies_owe b n form f tree _ more w a (Machine steps refl)
-    (λ p is. opens_owe b n form 1 i _ more w refl calls_more c_more
-    (λ bits rest s calls_rest c_rest g.
-    let m : HasMachine b form = record { steps = steps; run = refl; description = p; image = record { name = i; named = refl; bytes = bits; read = s } } in
-    bits_owe b n form m _ rest w
-    (λ l. opens_owe b n form 2 x _ rest w refl calls_rest c_rest
-    (λ text last t calls_last c_last go.
-    input_owes b n form (record { files = m; picture = l.0; is = l.1; input = record { name = x; named = refl; bytes = text; read = t } }) last w go))
-    (subst (λ (y : HasBytes b form 0). Loads i y.bytes p.plain bits (λ words. Opens x (RunsTo x steps p.plain words)) rest w) (sym is) g)))))
+    (λ tree a. sizes_owe b n form tree _ more w
+    (λ width wide.
+    let p : HasDescription b form = record { file = f; tree = tree; is = a; width = width; word_width = wide } in
+    opens_owe b n form 1 i _ more w refl calls_more c_more
+    (λ bits rest s calls_rest c_rest.
+    let m : HasImageFile b form = record { of_image = tt; description = p; image = record { name = i; named = refl; bytes = bits; read = s } } in
+    loads_owe b n form m _ rest w
+    (λ l.
+    let found : HasImage b form = record { files = m; picture = l.0; is = l.1 } in
+    opens_owe b n form 2 x _ rest w refl calls_rest c_rest
+    (λ text last t calls_last c_last.
+    input_owes b n form (record { steps = steps; run = refl; loaded = found; input = record { name = x; named = refl; bytes = text; read = t } }) last w))))))
 
 -- ---- `ceval`
 
@@ -197,10 +276,10 @@ compiles_owe b n form s goes xs w h (SoundProgram tree is g) = h tree is g
 ending_owes : (b n : Moment) (form : Option Form) (p : HasProgram b form) (found : List ℤ) (stop : outside.Stop) → numbers (Some (ty.Int p.files.bits)) p.input.bytes ≡ Ok found
     → (outcome_of b form p found).stop ≡ stop → Took b.taken n.taken (told_outcome (outcome_of b form p found)).text → HasCause b n form (ending_status stop)
 ending_owes b n form p found ends.Running is e t = inr (record { files = p; found = found; is = is; stop = e; told = t })
-ending_owes b n form p found ends.Ended is e t = inr (inr (inr (record { files = p; found = found; is = is; stop = inl e; told = t })))
-ending_owes b n form p found (ends.Trap zero) is e t = inr (inr (inr (record { files = p; found = found; is = is; stop = inr e; told = t })))
+ending_owes b n form p found ends.Ended is e t = inr (inr (inr (inr (record { files = p; found = found; is = is; stop = inl e; told = t }))))
+ending_owes b n form p found (ends.Trap zero) is e t = inr (inr (inr (inr (record { files = p; found = found; is = is; stop = inr e; told = t }))))
 ending_owes b n form p found (ends.Trap (suc code)) is e t = inr (record { files = p; found = found; is = is; stop = (code, e); told = t })
-ending_owes b n form p found ends.Wants is e t = record { files = p; found = found; is = is; stop = e; told = t }
+ending_owes b n form p found ends.Wants is e t = inr (record { files = p; found = found; is = is; stop = e; told = t })
 
 evaluates_owe : (b n : Moment) (form : Option Form) (p : HasProgram b form) (xs : List Asked) (w : Work)
     → EvaluatesTo p.input.name p.files.description.turns p.files.bits p.program p.input.bytes xs w → Owes b n form w.reply
@@ -232,13 +311,13 @@ ceval_owes b n d s x turns xs w calls c =
 work_owes : (b n : Moment) (form : Option Form) (xs : List Asked) (w : Work) → CallsBehind b n 0 xs w → HaveCauses b.store n.store xs → Leaves b.store n.store w.file
     → ComesTo form xs w → Owes b n form w.reply
 work_owes b n None xs w calls c saved e = ends_owe b n None xs w _ e (λ t. (refl, t))
-work_owes b n (Some (Asm d s i)) xs w calls c saved g = asm_owes b n d s i xs w calls c saved g
-work_owes b n (Some (Run d i x k)) xs w calls c saved g = run_owes b n d i x k xs w calls c g
 work_owes b n (Some (Check d)) xs w calls c saved g = check_owes b n d xs w calls c g
-work_owes b n (Some (Dis d i)) xs w calls c saved e = ends_owe b n (Some (Dis d i)) xs w not_built e (λ t. Command tt t)
-work_owes b n (Some (Cc d s i)) xs w calls c saved e = ends_owe b n (Some (Cc d s i)) xs w not_built e (λ t. Command tt t)
+work_owes b n (Some (Asm d s i)) xs w calls c saved g = asm_owes b n d s i xs w calls c saved g
+work_owes b n (Some (Dis d i)) xs w calls c saved g = dis_owes b n d i xs w calls c g
+work_owes b n (Some (Run d i x k)) xs w calls c saved g = run_owes b n d i x k xs w calls c g
+work_owes b n (Some (Cc d s i)) xs w calls c saved e = ends_owe b n (Some (Cc d s i)) xs w not_built e (λ t. record { other = tt; told = t })
 work_owes b n (Some (Ceval d s x k)) xs w calls c saved g = ceval_owes b n d s x k xs w calls c g
-work_owes b n (Some (Demo k)) xs w calls c saved e = ends_owe b n (Some (Demo k)) xs w not_built e (λ t. Command tt t)
+work_owes b n (Some (Demo k)) xs w calls c saved e = ends_owe b n (Some (Demo k)) xs w not_built e (λ t. record { other = tt; told = t })
 
 -- the whole text of what is told was taken
 kept_owes : (b n : Moment) (form : Option Form) (xs : List Asked) (w : Work) → CallsBehind b n 0 xs w → HaveCauses b.store n.store xs → Leaves b.store n.store w.file
@@ -279,9 +358,9 @@ told_ends o t u f g s (Cut x rose e) = inr (inl e)
 told_ends o t u f g s (Starved x kept e) = inr (inr e)
 told_ends o t u f g s (CutStarved x rose e) = inr (inl e)
 
-memory_ends : (wanted s : Status) → EndsIn statuses.Memory s → EndsIn wanted s
-memory_ends wanted s (inl e) = inr (inr e)
-memory_ends wanted s (inr e) = inr e
+memory_ends : (told s : Status) → EndsIn statuses.Memory s → EndsIn told s
+memory_ends told s (inl e) = inr (inr e)
+memory_ends told s (inr e) = inr e
 
 -- without a file, what the work comes to is told
 told_work : (m n : Store) (w : Work) (o : Reply) → w.file ≡ None → Filed m n w o → o ≡ w.reply

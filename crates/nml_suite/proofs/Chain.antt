@@ -1,8 +1,9 @@
 -- What holds of each work that words come to, step by step.
-use Rattle.std.proofs.Common.{◌≡◌, ℕ, List, [], ◌∷◌, Option, Some, None, sym, ap, subst, Bool}
-use Rattle.plain_tree.specs.Description.{Description}
+use Rattle.std.proofs.Common.{◌≡◌, ℕ, List, [], ◌∷◌, Option, Some, None, sym, ap, subst}
 use Rattle.nml_tree.specs.declared.tree.Desc.{Desc}
-use Rattle.nml_suite.specs.Coming.{EndsWith, SumsUp, Summed, Opens, Short, Opened, Accepts, Faulty, Accepted, Simplifies, Other, Plain, AssemblesTo, NotPlain, NoMatch, Words, Loads, NoImage, Loaded, RunsTo, Input, Ran, Targets, NoTarget, Targeted, Compiles, FaultyProgram, SoundProgram, EvaluatesTo, BadNumber, Evaluated, ComesTo}
+use Rattle.nml_tree.specs.Table.{Table, table}
+use Rattle.image_file.specs.File.{Picture}
+use Rattle.nml_suite.specs.Coming.{EndsWith, SumsUp, Summed, Opens, Short, Opened, Accepts, Faulty, Accepted, Sizes, Sized, AssemblesTo, FaultyText, Words, Loads, FaultyImage, Loaded, DisassemblesTo, Shown, RunsTo, Input, Ran, Targets, NoTarget, Targeted, Compiles, FaultyProgram, SoundProgram, EvaluatesTo, BadNumber, Evaluated, ComesTo}
 use Rattle.c_tree.specs.declared.program.CTree.{CTree}
 use Rattle.nml_command.specs.Form.{Form, Check, Asm, Dis, Run, Cc, Ceval, Demo}
 use Rattle.nml_suite.specs.Reading.{Reading, Unread, IsShort, Asked}
@@ -40,32 +41,33 @@ opens_sound name goes xs w h (Short r e short is) =
 opens_sound name goes xs w h (Opened bytes more e g) =
     let s = h bytes more g in record { told = subst NoneUnread (sym e) (λ u. absurd (cc u), s.told); done = s.done }
 
-accepts_sound : {whole : Bool} (name bytes : List ℕ) (goes : Desc → List Asked → Work → Type 0) (xs : List Asked) (w : Work) → ((tree : Desc) → goes tree xs w → IsSound xs w)
-    → Accepts whole name bytes goes xs w → IsSound xs w
+accepts_sound : (name bytes : List ℕ) (goes : Desc → List Asked → Work → Type 0) (xs : List Asked) (w : Work) → ((tree : Desc) → goes tree xs w → IsSound xs w)
+    → Accepts name bytes goes xs w → IsSound xs w
 accepts_sound name bytes goes xs w h (Faulty fault x e) = ends_sound _ xs w e
 accepts_sound name bytes goes xs w h (Accepted tree a g) = h tree g
 
-simplifies_sound : (name : List ℕ) (tree : Desc) (goes : Description → List Asked → Work → Type 0) (xs : List Asked) (w : Work)
-    → ((d : Description) → goes d xs w → IsSound xs w) → Simplifies name tree goes xs w → IsSound xs w
-simplifies_sound name tree goes xs w h (Other none e) = ends_sound _ xs w e
-simplifies_sound name tree goes xs w h (Plain d built g) = h d g
+sizes_sound : (tree : Desc) (goes : ℕ → List Asked → Work → Type 0) (xs : List Asked) (w : Work) → ((width : ℕ) → goes width xs w → IsSound xs w) → Sizes tree goes xs w → IsSound xs w
+sizes_sound tree goes xs w h (Sized width is g) = h width g
 
 sums_sound : (tree : Desc) (xs : List Asked) (w : Work) → SumsUp tree xs w → IsSound xs w
 sums_sound tree xs w (Summed count width s e) = ends_sound _ xs w e
 
-text_sound : (s i bytes : List ℕ) (d : Description) (text : List ℕ) (xs : List Asked) (w : Work) → AssemblesTo s i bytes d text xs w → IsSound xs w
-text_sound s i bytes d text xs w (NotPlain c e) = ends_sound _ xs w e
-text_sound s i bytes d text xs w (NoMatch c line l e) = ends_sound _ xs w e
-text_sound s i bytes d text xs w (Words c words l last e) = record { told = subst NoneUnread (sym last) tt; done = λ f is. ap (λ (k : Work). k.reply.status) e }
+text_sound : (name image bytes : List ℕ) (t : Table) (width : ℕ) (text : List ℕ) (xs : List Asked) (w : Work) → AssemblesTo name image bytes t width text xs w → IsSound xs w
+text_sound name image bytes t width text xs w (FaultyText fault some x e) = ends_sound _ xs w e
+text_sound name image bytes t width text xs w (Words words inits h last e) =
+    record { told = subst NoneUnread (sym last) tt; done = λ f is. ap (λ (k : Work). k.reply.status) e }
 
-loads_sound : (name bytes : List ℕ) (d : Description) (bits : List ℕ) (goes : List ℕ → List Asked → Work → Type 0) (xs : List Asked) (w : Work)
-    → ((words : List ℕ) → goes words xs w → IsSound xs w) → Loads name bytes d bits goes xs w → IsSound xs w
-loads_sound name bytes d bits goes xs w h (NoImage none e) = ends_sound _ xs w e
-loads_sound name bytes d bits goes xs w h (Loaded i is g) = h i.words g
+loads_sound : (name bytes : List ℕ) (t : Table) (width : ℕ) (bits : List ℕ) (goes : Picture → List Asked → Work → Type 0) (xs : List Asked) (w : Work)
+    → ((i : Picture) → goes i xs w → IsSound xs w) → Loads name bytes t width bits goes xs w → IsSound xs w
+loads_sound name bytes t width bits goes xs w h (FaultyImage fault some x e) = ends_sound _ xs w e
+loads_sound name bytes t width bits goes xs w h (Loaded i is g) = h i g
 
-runs_sound : (x : List ℕ) (steps : ℕ) (d : Description) (words text : List ℕ) (xs : List Asked) (w : Work) → RunsTo x steps d words text xs w → IsSound xs w
-runs_sound x steps d words text xs w (Input line is e) = ends_sound _ xs w e
-runs_sound x steps d words text xs w (Ran blank r runs e) = ends_sound _ xs w e
+shows_sound : (t : Table) (width : ℕ) (i : Picture) (xs : List Asked) (w : Work) → DisassemblesTo t width i xs w → IsSound xs w
+shows_sound t width i xs w (Shown text is e) = ends_sound _ xs w e
+
+runs_sound : (x : List ℕ) (steps : ℕ) (t : Table) (i : Picture) (text : List ℕ) (xs : List Asked) (w : Work) → RunsTo x steps t i text xs w → IsSound xs w
+runs_sound x steps t i text xs w (Input line is e) = ends_sound _ xs w e
+runs_sound x steps t i text xs w (Ran found is r runs e) = ends_sound _ xs w e
 
 targets_sound : (name : List ℕ) (tree : Desc) (goes : ℕ → List Asked → Work → Type 0) (xs : List Asked) (w : Work) → ((n : ℕ) → goes n xs w → IsSound xs w)
     → Targets name tree goes xs w → IsSound xs w
@@ -83,22 +85,28 @@ evaluates_sound x turns n tree text xs w (Evaluated found is e) = ends_sound _ x
 
 pub sound : (form : Option Form) (xs : List Asked) (w : Work) → ComesTo form xs w → IsSound xs w
 sound None xs w e = ends_sound _ xs w e
+sound (Some (Check d)) xs w g = opens_sound d _ xs w (λ bytes more. accepts_sound d bytes _ more w (λ tree. sums_sound tree more w)) g
 sound (Some (Asm d s i)) xs w g =
     opens_sound d _ xs w
     (λ bytes more. accepts_sound d bytes _ more w
-    (λ tree. simplifies_sound d tree _ more w
-    (λ p. opens_sound s _ more w (λ text rest. text_sound s i bytes p text rest w))))
+    (λ tree. sizes_sound tree _ more w
+    (λ width. opens_sound s _ more w (λ text rest. text_sound s i bytes (table tree) width text rest w))))
+    g
+sound (Some (Dis d i)) xs w g =
+    opens_sound d _ xs w
+    (λ bytes more. accepts_sound d bytes _ more w
+    (λ tree. sizes_sound tree _ more w
+    (λ width. opens_sound i _ more w
+    (λ bits rest. loads_sound i bytes (table tree) width bits _ rest w (λ p. shows_sound (table tree) width p rest w)))))
     g
 sound (Some (Run d i x n)) xs w g =
     opens_sound d _ xs w
     (λ bytes more. accepts_sound d bytes _ more w
-    (λ tree. simplifies_sound d tree _ more w
-    (λ p. opens_sound i _ more w
-    (λ bits rest. loads_sound i bytes p bits _ rest w
-    (λ words. opens_sound x _ rest w (λ text last. runs_sound x n p words text last w))))))
+    (λ tree. sizes_sound tree _ more w
+    (λ width. opens_sound i _ more w
+    (λ bits rest. loads_sound i bytes (table tree) width bits _ rest w
+    (λ p. opens_sound x _ rest w (λ text last. runs_sound x n (table tree) p text last w))))))
     g
-sound (Some (Check d)) xs w g = opens_sound d _ xs w (λ bytes more. accepts_sound d bytes _ more w (λ tree. sums_sound tree more w)) g
-sound (Some (Dis d i)) xs w e = ends_sound _ xs w e
 sound (Some (Cc d s i)) xs w e = ends_sound _ xs w e
 sound (Some (Ceval d s x turns)) xs w g =
     opens_sound d _ xs w

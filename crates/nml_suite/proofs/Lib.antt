@@ -1,6 +1,5 @@
 pub mod Answering
 pub mod Arriving
-pub mod Built
 pub mod Causes
 pub mod Chain
 pub mod Completeness
@@ -18,3 +17,4 @@ pub mod ReadRows
 pub mod SomeWork
 pub mod Telling
 pub mod Untouched
+pub mod TextLines

@@ -1,30 +1,37 @@
 -- However the reads are answered, words come to one thing alone.
-use Rattle.std.proofs.Common.{◌≡◌, ℕ, suc, List, [], ◌∷◌, Option, Some, None, refl, sym, ap, ◌∙◌, subst, arith, Bool, true, false}
-use Rattle.plain_tree.specs.Description.{Description}
-use Rattle.plain_tree.specs.IsPlain.{IsPlain}
+use Rattle.std.proofs.Common.{◌≡◌, ℕ, suc, List, [], ◌∷◌, Result, Ok, Err, Option, Some, None, refl, sym, ap, ◌∙◌, subst, arith}
+use Rattle.sha2.specs.Sha256.{sha256}
 use Rattle.nml_tree.specs.declared.tree.Desc.{Desc}
 use Rattle.nml_tree.specs.Table.{table}
-use Rattle.nml_refusals.proofs.Summaries.{one_summary}
-use Rattle.image_file.specs.File.{Picture, Init, HasFile}
-use Rattle.image_file.proofs.OneFile.{one}
-use Rattle.plain_tools.specs.PlainText.{lines}
-use Rattle.plain_tools.proofs.AssembledWords.{pc_numbers}
-use Rattle.plain_tools.proofs.Determined.{HasOneWord, one_assembly, none_fails, one_failure, both}
-use Rattle.plain_tools.proofs.Instructions.{same_word}
-use Rattle.plain_tools.proofs.OneRun.{one_run}
-use Rattle.nml_suite.specs.Coming.{EndsWith, SumsUp, Summed, Opens, Short, Opened, Accepts, Faulty, Accepted, Simplifies, Other, Plain, AssemblesTo, NotPlain, NoMatch, Words, Loads, NoImage, Loaded, RunsTo, Input, Ran, IsImageOf, Targets, NoTarget, Targeted, Compiles, FaultyProgram, SoundProgram, EvaluatesTo, BadNumber, Evaluated, ComesTo, picture, made}
+use Rattle.nml_tree.specs.Machine.{RunsImage}
+use Rattle.nml_tree.specs.Refused.{IsChecked}
+use Rattle.nml_tree.specs.Valid.{IsWordWidth}
+use Rattle.nml_refusals.proofs.Summaries.{less, one_summary, some_root}
+use Rattle.nml_runs.proofs.OneOutcome.{one_outcome}
+use Rattle.image_file.specs.File.{Picture}
+use Rattle.image_file.specs.Measured.{measures}
+use Rattle.image_file.specs.Refused.{IsAnswer, IsRefused}
+use Rattle.image_file.specs.Valid.{IsImageOf}
+use Rattle.image_file.specs.declared.fault.ImageFault.{ImageFault}
+use Rattle.image_file.specs.declared.fault.ImageFault.TheVariants as image_faults
+use Rattle.image_file.proofs.Answered as images
+use Rattle.image_layout.proofs.Limits.{limited}
+use Rattle.asm_text.proofs.OneAnswer as texts
+use Rattle.asm_text.proofs.OneAnswer.{one_words, apart}
+use Rattle.asm_text.proofs.CanonicalTexts.{one_canonical}
+use Rattle.nml_suite.specs.Coming.{EndsWith, SumsUp, Summed, Opens, Short, Opened, Accepts, Faulty, Accepted, Sizes, Sized, AssemblesTo, FaultyText, Words, Loads, FaultyImage, Loaded, DisassemblesTo, Shown, RunsTo, Input, Ran, Targets, NoTarget, Targeted, Compiles, FaultyProgram, SoundProgram, EvaluatesTo, BadNumber, Evaluated, ComesTo, picture, made, initials}
 use Rattle.nml_suite.specs.Complete.{Answering, AreAnswered, ComesOut}
 use Rattle.nml_suite.specs.Described.{IsAccepted}
 use Rattle.nml_command.specs.Form.{Form, Check, Asm, Dis, Run, Cc, Ceval, Demo}
 use Rattle.nml_suite.specs.Reading.{Got, IsShort, Asked}
-use Rattle.nml_suite.specs.Reply.{Reply, unread, accepted, description_fault, no_match, bad_input, told_run, no_target, program_fault, told_outcome}
+use Rattle.nml_suite.specs.Reply.{Reply, unread, accepted, description_fault, text_fault, image_fault, bad_input, disassembled, told_run, no_target, program_fault, told_outcome}
 use Rattle.nml_suite.specs.Work.{Work, telling}
-use Rattle.nml_suite.proofs.Images.{has_file}
 use Rattle.c_tree.specs.declared.program.CTree.{CTree}
 use Rattle.c_tree.specs.Meaning.{outcome}
 use Rattle.c_tree.specs.Resolve.{resolved}
+use Rattle.nml_suite.proofs.Images.{digest_is}
 use Rattle.nml_suite.proofs.Programs.{one_program_fault, no_program_fault, one_program}
-use Rattle.nml_suite.proofs.OneFault.{one_fault, no_fault, one_accepted, one_built}
+use Rattle.nml_suite.proofs.OneFault.{one_fault, no_fault, one_accepted}
 
 same_bytes : {a b : List ℕ} → Got a ≡ Got b → a ≡ b
 same_bytes e = cc
@@ -56,21 +63,21 @@ opens_one answers k name goes went xs ys w v a b h (Opened bytes more e g) (Open
     let y : AreAnswered answers k ((name, Got text) ∷ other) = subst (AreAnswered answers k) f b in
     h text more other x.1 y.1 (subst (λ t. goes t more w) (same_bytes (x.0 ∙ sym y.0)) g) d
 
-accepts_one : (whole : Bool) (name bytes : List ℕ) (goes went : Desc → List Asked → Work → Type 0) (xs ys : List Asked) (w v : Work)
-    → ((tree : Desc) → IsAccepted whole bytes tree → goes tree xs w → went tree ys v → w ≡ v)
-    → Accepts whole name bytes goes xs w → Accepts whole name bytes went ys v → w ≡ v
-accepts_one whole name bytes goes went xs ys w v h (Faulty f x e) (Faulty g y i) = both_end _ _ xs ys w v (ap (description_fault name) (one_fault whole bytes f g x y)) e i
-accepts_one whole name bytes goes went xs ys w v h (Faulty f x e) (Accepted t a g) = absurd (no_fault whole bytes t f a x)
-accepts_one whole name bytes goes went xs ys w v h (Accepted t a g) (Faulty f x e) = absurd (no_fault whole bytes t f a x)
-accepts_one whole name bytes goes went xs ys w v h (Accepted t a g) (Accepted u b d) = h u b (subst (λ z. goes z xs w) (one_accepted bytes t u a b) g) d
+accepts_one : (name bytes : List ℕ) (goes went : Desc → List Asked → Work → Type 0) (xs ys : List Asked) (w v : Work)
+    → ((tree : Desc) → IsAccepted bytes tree → goes tree xs w → went tree ys v → w ≡ v)
+    → Accepts name bytes goes xs w → Accepts name bytes went ys v → w ≡ v
+accepts_one name bytes goes went xs ys w v h (Faulty f x e) (Faulty g y i) = both_end _ _ xs ys w v (ap (description_fault name) (one_fault bytes f g x y)) e i
+accepts_one name bytes goes went xs ys w v h (Faulty f x e) (Accepted t a g) = absurd (no_fault bytes t f a x)
+accepts_one name bytes goes went xs ys w v h (Accepted t a g) (Faulty f x e) = absurd (no_fault bytes t f a x)
+accepts_one name bytes goes went xs ys w v h (Accepted t a g) (Accepted u b d) = h u b (subst (λ z. goes z xs w) (one_accepted bytes t u a b) g) d
 
-simplifies_one : (name : List ℕ) (tree : Desc) (goes went : Description → List Asked → Work → Type 0) (xs ys : List Asked) (w v : Work)
-    → ((d : Description) → IsPlain d → goes d xs w → went d ys v → w ≡ v)
-    → Simplifies name tree goes xs w → Simplifies name tree went ys v → w ≡ v
-simplifies_one name tree goes went xs ys w v h (Other none e) (Other no_other i) = both_end _ _ xs ys w v refl e i
-simplifies_one name tree goes went xs ys w v h (Other none e) (Plain d b g) = absurd (none d b)
-simplifies_one name tree goes went xs ys w v h (Plain d b g) (Other none e) = absurd (none d b)
-simplifies_one name tree goes went xs ys w v h (Plain d b g) (Plain c k f) = h c k.plain.plain (subst (λ z. goes z xs w) (one_built tree d c b.plain k.plain) g) f
+-- where there is an instruction, all words have one number of bits
+pub one_width : (d : Desc) (a b : ℕ) → IsChecked d → IsWordWidth (table d) a → IsWordWidth (table d) b → a ≡ b
+one_width d a b checked h k = let x = some_root d (less d 12 13 (omega arith) checked.free) in sym (h x.0 x.1) ∙ k x.0 x.1
+
+sizes_one : (tree : Desc) (goes went : ℕ → List Asked → Work → Type 0) (xs ys : List Asked) (w v : Work) → IsChecked tree
+    → ((width : ℕ) → IsWordWidth (table tree) width → goes width xs w → went width ys v → w ≡ v) → Sizes tree goes xs w → Sizes tree went ys v → w ≡ v
+sizes_one tree goes went xs ys w v checked h (Sized a x g) (Sized b y f) = h b y (subst (λ z. goes z xs w) (one_width tree a b checked x y) g) f
 
 -- ---- `check`
 
@@ -80,48 +87,58 @@ sums_one tree xs ys w v (Summed c b s e) (Summed a z t f) =
 
 -- ---- `asm`
 
-text_one : (s i bytes : List ℕ) (d : Description) (text : List ℕ) (xs ys : List Asked) (w v : Work) → HasOneWord d
-    → AssemblesTo s i bytes d text xs w → AssemblesTo s i bytes d text ys v → w ≡ v
-text_one s i bytes d text xs ys w v h (NotPlain a e) (NotPlain b f) = both_end _ _ xs ys w v refl e f
-text_one s i bytes d text xs ys w v h (NotPlain a e) (NoMatch b line l f) = absurd (both _ b a)
-text_one s i bytes d text xs ys w v h (NotPlain a e) (Words b ws l last f) = absurd (both _ b a)
-text_one s i bytes d text xs ys w v h (NoMatch a line l e) (NotPlain b f) = absurd (both _ a b)
-text_one s i bytes d text xs ys w v h (NoMatch a line l e) (NoMatch b other m f) = both_end _ _ xs ys w v (ap (no_match s) (one_failure d (lines text) line other l m)) e f
-text_one s i bytes d text xs ys w v h (NoMatch a line l e) (Words b ws m last f) = absurd (none_fails d (lines text) ws l.before l.line m l.stands l.fails)
-text_one s i bytes d text xs ys w v h (Words a ws l last e) (NotPlain b f) = absurd (both _ a b)
-text_one s i bytes d text xs ys w v h (Words a ws l last e) (NoMatch b line m f) = absurd (none_fails d (lines text) ws m.before m.line l m.stands m.fails)
-text_one s i bytes d text xs ys w v h (Words a ws l last e) (Words b vs m end f) = e ∙ ap (made i bytes d) (one_assembly d h (lines text) ws vs l m) ∙ sym f
+text_one : (name image bytes : List ℕ) (d : Desc) (width : ℕ) (text : List ℕ) (xs ys : List Asked) (w v : Work) → IsChecked d
+    → AssemblesTo name image bytes (table d) width text xs w → AssemblesTo name image bytes (table d) width text ys v → w ≡ v
+text_one name image bytes d width text xs ys w v checked (FaultyText f a h e) (FaultyText g b k i) = both_end _ _ xs ys w v (ap (text_fault name) (texts.one_fault d width text f g a b h k)) e i
+text_one name image bytes d width text xs ys w v checked (FaultyText f a h e) (Words ws is k last i) = absurd (a (apart d width text ws is f k h))
+text_one name image bytes d width text xs ys w v checked (Words ws is h last e) (FaultyText g b k i) = absurd (b (apart d width text ws is g h k))
+text_one name image bytes d width text xs ys w v checked (Words ws is h last e) (Words vs js k end i) =
+    let same = one_words d width text ws vs is js checked h k in
+    let p : made image (picture bytes width ws is) ≡ made image (picture bytes width vs js) = λ j. made image (picture bytes width (same.0 j) (same.1 j)) in
+    e ∙ p ∙ sym i
+
+-- ---- images
+
+-- bits come to one image of a description, or to one fault
+one_answer : (bytes : List ℕ) (d : Desc) (width : ℕ) (bits : List ℕ) (a b : Result Picture ImageFault) → IsChecked d → IsWordWidth (table d) width
+    → IsAnswer (measures (table d) width) (sha256 bytes) bits a → IsAnswer (measures (table d) width) (sha256 bytes) bits b → a ≡ b
+one_answer bytes d width bits a b checked is h k = images.one_answer (measures (table d) width) (sha256 bytes) bits a b (limited d width checked is) (digest_is bytes) h k
+
+pub one_image : (bytes : List ℕ) (d : Desc) (width : ℕ) (bits : List ℕ) (i j : Picture) → IsChecked d → IsWordWidth (table d) width
+    → IsImageOf (measures (table d) width) (sha256 bytes) bits i → IsImageOf (measures (table d) width) (sha256 bytes) bits j → i ≡ j
+one_image bytes d width bits i j checked is h k = cc (one_answer bytes d width bits (Ok i) (Ok j) checked is h k)
+
+pub no_image_fault : (bytes : List ℕ) (d : Desc) (width : ℕ) (bits : List ℕ) (i : Picture) (f : ImageFault) → IsChecked d → IsWordWidth (table d) width
+    → IsImageOf (measures (table d) width) (sha256 bytes) bits i → (f ≡ image_faults.Memory → ⊥) → IsRefused (measures (table d) width) (sha256 bytes) bits f → ⊥
+no_image_fault bytes d width bits i f checked is h some k = absurd (cc (one_answer bytes d width bits (Ok i) (Err f) checked is h (some, k)))
+
+loads_one : (name bytes : List ℕ) (d : Desc) (width : ℕ) (bits : List ℕ) (goes went : Picture → List Asked → Work → Type 0) (xs ys : List Asked) (w v : Work) → IsChecked d
+    → IsWordWidth (table d) width → ((i : Picture) → goes i xs w → went i ys v → w ≡ v) → Loads name bytes (table d) width bits goes xs w
+    → Loads name bytes (table d) width bits went ys v → w ≡ v
+loads_one name bytes d width bits goes went xs ys w v checked is h (FaultyImage f a x e) (FaultyImage g b y i) =
+    let same : f ≡ g = cc (one_answer bytes d width bits (Err f) (Err g) checked is (a, x) (b, y)) in both_end _ _ xs ys w v (ap (image_fault name) same) e i
+loads_one name bytes d width bits goes went xs ys w v checked is h (FaultyImage f a x e) (Loaded j y g) = absurd (no_image_fault bytes d width bits j f checked is y a x)
+loads_one name bytes d width bits goes went xs ys w v checked is h (Loaded i x g) (FaultyImage f b y e) = absurd (no_image_fault bytes d width bits i f checked is x b y)
+loads_one name bytes d width bits goes went xs ys w v checked is h (Loaded i x g) (Loaded j y f) =
+    h j (subst (λ z. goes z xs w) (one_image bytes d width bits i j checked is x y) g) f
+
+-- ---- `dis`
+
+shows_one : (d : Desc) (width : ℕ) (i : Picture) (xs ys : List Asked) (w v : Work) → IsChecked d → DisassemblesTo (table d) width i xs w
+    → DisassemblesTo (table d) width i ys v → w ≡ v
+shows_one d width i xs ys w v checked (Shown a x e) (Shown b y f) = both_end _ _ xs ys w v (ap disassembled (one_canonical d width i.words a b (initials i) checked x y)) e f
 
 -- ---- `run`
 
--- an image of a description is the picture of its words
-image_is : (bytes : List ℕ) (d : Description) (bits : List ℕ) (i : Picture) → IsImageOf bytes d bits i → i ≡ picture bytes d i.words
-image_is bytes d bits i h =
-    let make : List ℕ → ℕ → List Init → Picture = λ digest width inits. record { digest = digest; width = width; words = i.words; inits = inits } in
-    λ j. make (h.plain.digest_is j) (h.plain.width_is j) (h.plain.no_inits j)
-
-image_has_file : (bytes : List ℕ) (d : Description) (bits : List ℕ) (i : Picture) → IsPlain d → IsImageOf bytes d bits i → HasFile i
-image_has_file bytes d bits i p h =
-    subst HasFile (sym (image_is bytes d bits i h)) (has_file bytes d i.words p (omega (arith, h.plain.words_count, pc_numbers d.regs p.regs_are)) h.plain.words_fit)
-
--- the bits are the file of one image
-pub one_image : (bytes : List ℕ) (d : Description) (bits : List ℕ) (i j : Picture) → IsPlain d → IsImageOf bytes d bits i → IsImageOf bytes d bits j → i ≡ j
-one_image bytes d bits i j p h k = one i j (image_has_file bytes d bits i p h) (image_has_file bytes d bits j p k) (sym h.is ∙ k.is)
-
-loads_one : (name bytes : List ℕ) (d : Description) (bits : List ℕ) (goes went : List ℕ → List Asked → Work → Type 0) (xs ys : List Asked) (w v : Work) → IsPlain d
-    → ((words : List ℕ) → goes words xs w → went words ys v → w ≡ v) → Loads name bytes d bits goes xs w → Loads name bytes d bits went ys v → w ≡ v
-loads_one name bytes d bits goes went xs ys w v p h (NoImage none e) (NoImage no_other f) = both_end _ _ xs ys w v refl e f
-loads_one name bytes d bits goes went xs ys w v p h (NoImage none e) (Loaded i t f) = absurd (none i t)
-loads_one name bytes d bits goes went xs ys w v p h (Loaded i t f) (NoImage none e) = absurd (none i t)
-loads_one name bytes d bits goes went xs ys w v p h (Loaded i t f) (Loaded j u g) =
-    h j.words (subst (λ (z : Picture). goes z.words xs w) (one_image bytes d bits i j p t u) f) g
-
-runs_one : (x : List ℕ) (steps : ℕ) (d : Description) (words text : List ℕ) (xs ys : List Asked) (w v : Work) → IsPlain d
-    → RunsTo x steps d words text xs w → RunsTo x steps d words text ys v → w ≡ v
-runs_one x steps d words text xs ys w v p (Input line a e) (Input other b f) = let same : line ≡ other = cc (a, b) in both_end _ _ xs ys w v (ap (bad_input x) same) e f
-runs_one x steps d words text xs ys w v p (Input line a e) (Ran b r runs f) = absurd (cc (a, b))
-runs_one x steps d words text xs ys w v p (Ran a r runs e) (Input line b f) = absurd (cc (a, b))
-runs_one x steps d words text xs ys w v p (Ran a r runs e) (Ran b q goes f) = both_end _ _ xs ys w v (ap told_run (one_run d words steps _ r q p runs goes)) e f
+runs_one : (x : List ℕ) (steps : ℕ) (d : Desc) (i : Picture) (text : List ℕ) (xs ys : List Asked) (w v : Work) → IsChecked d
+    → RunsTo x steps (table d) i text xs w → RunsTo x steps (table d) i text ys v → w ≡ v
+runs_one x steps d i text xs ys w v checked (Input line a e) (Input other b f) = let same : line ≡ other = cc (a, b) in both_end _ _ xs ys w v (ap (bad_input x) same) e f
+runs_one x steps d i text xs ys w v checked (Input line a e) (Ran found b r runs f) = absurd (cc (a, b))
+runs_one x steps d i text xs ys w v checked (Ran found a r runs e) (Input line b f) = absurd (cc (a, b))
+runs_one x steps d i text xs ys w v checked (Ran found a r runs e) (Ran other b q goes f) =
+    let same : found ≡ other = cc (a, b) in
+    let moved : RunsImage (table d) i.words (initials i) other steps r = subst (λ zs. RunsImage (table d) i.words (initials i) zs steps r) same runs in
+    both_end _ _ xs ys w v (ap told_run (one_outcome d i.words steps _ r q checked moved goes)) e f
 
 -- ---- `ceval`
 
@@ -153,27 +170,34 @@ comes_one : (answers : Answering) (form : Option Form) (xs ys : List Asked) (w v
 comes_one answers None xs ys w v a b x y = both_end _ _ xs ys w v refl x y
 comes_one answers (Some (Asm d s i)) xs ys w v a b x y =
     opens_one answers 0 d _ _ xs ys w v a b
-    (λ bytes more other c e. accepts_one false d bytes _ _ more other w v
-    (λ tree k. simplifies_one d tree _ _ more other w v
-    (λ p plain. opens_one answers 1 s _ _ more other w v c e
-    (λ text rest last f g. text_one s i bytes p text rest last w v (λ ts m n j l. same_word p ts m n plain j l)))))
+    (λ bytes more other c e. accepts_one d bytes _ _ more other w v
+    (λ tree k. sizes_one tree _ _ more other w v k.right
+    (λ width is. opens_one answers 1 s _ _ more other w v c e
+    (λ text rest last f g. text_one s i bytes tree width text rest last w v k.right))))
     x y
+comes_one answers (Some (Dis d i)) xs ys w v a b f g =
+    opens_one answers 0 d _ _ xs ys w v a b
+    (λ bytes more other c e. accepts_one d bytes _ _ more other w v
+    (λ tree k. sizes_one tree _ _ more other w v k.right
+    (λ width is. opens_one answers 1 i _ _ more other w v c e
+    (λ bits rest last h j. loads_one i bytes tree width bits _ _ rest last w v k.right is
+    (λ image. shows_one tree width image rest last w v k.right)))))
+    f g
 comes_one answers (Some (Run d i x n)) xs ys w v a b f g =
     opens_one answers 0 d _ _ xs ys w v a b
-    (λ bytes more other c e. accepts_one false d bytes _ _ more other w v
-    (λ tree k. simplifies_one d tree _ _ more other w v
-    (λ p plain. opens_one answers 1 i _ _ more other w v c e
-    (λ bits rest last h j. loads_one i bytes p bits _ _ rest last w v plain
-    (λ words. opens_one answers 2 x _ _ rest last w v h j
-    (λ text end stop l m. runs_one x n p words text end stop w v plain))))))
+    (λ bytes more other c e. accepts_one d bytes _ _ more other w v
+    (λ tree k. sizes_one tree _ _ more other w v k.right
+    (λ width is. opens_one answers 1 i _ _ more other w v c e
+    (λ bits rest last h j. loads_one i bytes tree width bits _ _ rest last w v k.right is
+    (λ image. opens_one answers 2 x _ _ rest last w v h j
+    (λ text end stop l m. runs_one x n tree image text end stop w v k.right))))))
     f g
 comes_one answers (Some (Check d)) xs ys w v a b x y =
-    opens_one answers 0 d _ _ xs ys w v a b (λ bytes more other c e. accepts_one true d bytes _ _ more other w v (λ tree k. sums_one tree more other w v)) x y
-comes_one answers (Some (Dis d i)) xs ys w v a b x y = both_end _ _ xs ys w v refl x y
+    opens_one answers 0 d _ _ xs ys w v a b (λ bytes more other c e. accepts_one d bytes _ _ more other w v (λ tree k. sums_one tree more other w v)) x y
 comes_one answers (Some (Cc d s i)) xs ys w v a b x y = both_end _ _ xs ys w v refl x y
 comes_one answers (Some (Ceval d s x turns)) xs ys w v a b f g =
     opens_one answers 0 d _ _ xs ys w v a b
-    (λ bytes more other c e. accepts_one true d bytes _ _ more other w v
+    (λ bytes more other c e. accepts_one d bytes _ _ more other w v
     (λ tree k. targets_one d tree _ _ more other w v
     (λ n. opens_one answers 1 s _ _ more other w v c e
     (λ text rest last h j. compiles_one s text n _ _ rest last w v

@@ -1,30 +1,35 @@
 -- However the reads are answered, it can't be that words come to nothing.
 use Rattle.std.proofs.Common.{◌≡◌, ◌⊎◌, ℕ, suc, List, [], ◌∷◌, ℤ, Result, Ok, Err, Option, Some, None, refl, sym, inl, inr}
-use Rattle.std.specs.Prelude.{Bool, true, false}
+use Rattle.sha2.specs.Sha256.{sha256}
 use Rattle.nml_tree.specs.declared.fault.DescFault.TheVariants as faults
 use Rattle.nml_tree.specs.declared.tree.Desc.{Desc}
 use Rattle.nml_tree.specs.Floats.{float_places}
+use Rattle.nml_tree.specs.Machine.{first_cells}
+use Rattle.nml_tree.specs.Refused.{IsChecked}
+use Rattle.nml_tree.specs.Table.{Table, table}
+use Rattle.nml_tree.specs.Valid.{IsWordWidth}
 use Rattle.nml_lex.specs.Lexed.{IsStuckAt}
 use Rattle.nml_grammar.specs.Trees.{IsTree, HasNoTree, IsFloat}
 use Rattle.nml_grammar.proofs.SomeReading.{some_tree, some_float}
-use Rattle.plain_tree.specs.Description.{Description}
-use Rattle.plain_tools.specs.Assembly.{is_fit}
-use Rattle.plain_tools.specs.Machine.{RunOutcome, Runs, beginning}
-use Rattle.plain_tools.specs.PlainText.{lines}
-use Rattle.plain_tools.proofs.HasOutcome.{has_outcome}
-use Rattle.plain_tools.proofs.Determined.{not_neither}
-use Rattle.nml_suite.specs.Coming.{EndsWith, SumsUp, Summed, Opens, Short, Opened, Accepts, Faulty, Accepted, Simplifies, Other, Plain, AssemblesTo, NotPlain, NoMatch, Words, Loads, NoImage, Loaded, RunsTo, Input, Ran, Targets, NoTarget, Targeted, Compiles, FaultyProgram, SoundProgram, EvaluatesTo, BadNumber, Evaluated, ComesTo, first_input, made}
-use Rattle.nml_suite.specs.Complete.{Answering, AllAnswer, AreAnswered, ComesOut}
-use Rattle.nml_types.proofs.Refusals.{typed_if_none}
-use Rattle.nml_refusals.proofs.TreeFaults.{checked_if_none}
-use Rattle.nml_tree.specs.declared.fault.DescFault.{DescFault}
 use Rattle.nml_refusals.proofs.Told.{told, some_summary}
-use Rattle.nml_tree.specs.Refused.{IsChecked}
-use Rattle.nml_suite.specs.Described.{IsFaultOf, IsRight, Spells, NoTokens, NoTree, Floating, Refused, IsAccepted, IsBuilt}
+use Rattle.nml_refusals.proofs.TreeFaults.{checked_if_none}
+use Rattle.nml_runs.proofs.SomeRun.{some_run}
+use Rattle.image_file.specs.File.{Picture}
+use Rattle.image_file.specs.Measured.{measures}
+use Rattle.image_file.specs.Refused.{IsAnswer}
+use Rattle.image_file.specs.Valid.{AreBytes}
+use Rattle.image_file.specs.declared.fault.ImageFault.{ImageFault}
+use Rattle.image_file.proofs.Answered as images
+use Rattle.asm_text.proofs.SomeAnswer.{some_answer}
+use Rattle.asm_text.proofs.CanonicalTexts.{some_canonical}
+use Rattle.nml_suite.specs.Coming.{EndsWith, SumsUp, Summed, Opens, Short, Opened, Accepts, Faulty, Accepted, Sizes, Sized, AssemblesTo, FaultyText, Words, Loads, FaultyImage, Loaded, DisassemblesTo, Shown, RunsTo, Input, Ran, Targets, NoTarget, Targeted, Compiles, FaultyProgram, SoundProgram, EvaluatesTo, BadNumber, Evaluated, ComesTo, picture, made, initials}
+use Rattle.nml_suite.specs.Complete.{Answering, AllAnswer, AreAnswered, AreReadable, ComesOut}
+use Rattle.nml_suite.specs.Described.{Spells, NoTokens, NoTree, Floating, Refused, IsAccepted}
 use Rattle.nml_target.specs.Target.{target}
 use Rattle.nml_target.specs.declared.width.Lacking.{Lacking}
 use Rattle.nk_base.specs.declared.number.Ty.TheVariants as ty
 use Rattle.input_lines.specs.Input.{numbers}
+use Rattle.input_port.specs.Port.{input_type}
 use Rattle.c_tree.specs.declared.program.CTree.{CTree}
 use Rattle.c_tree.specs.declared.fault.CFault.TheVariants as c_faults
 use Rattle.c_tree.specs.declared.fault.CFault.{CFault}
@@ -37,7 +42,7 @@ use Rattle.nml_suite.specs.Programs.{HasProgramFault, NoProgramTokens, LeftOut, 
 use Rattle.nml_suite.proofs.Programs.{memory_only}
 use Rattle.nml_command.specs.Form.{Form, Check, Asm, Dis, Run, Cc, Ceval, Demo}
 use Rattle.nml_suite.specs.Reading.{Reading, Got, Absent, Failed, TooLong, Unread, Asked}
-use Rattle.nml_suite.specs.Reply.{Reply, told_run}
+use Rattle.nml_suite.specs.Reply.{Reply, bad_input, disassembled, told_run}
 use Rattle.nml_suite.specs.Work.{Work, telling}
 
 -- it can't be that reads that are answered so, the first of them being the one at this place, come to nothing
@@ -50,43 +55,39 @@ ends answers k o none = none [] (telling o) tt (record { last = refl; is = refl 
 -- ---- the steps
 
 opens_by : (answers : Answering) (k : ℕ) (name : List ℕ) (goes : List ℕ → List Asked → Work → Type 0) (r : Reading) → answers k name ≡ r → (r ≡ Unread → ⊥)
-    → ((bytes : List ℕ) → Comes answers (suc k) (goes bytes)) → Comes answers k (Opens name goes)
-opens_by answers k name goes (Got bytes) e told h none = h bytes (λ more work a g. none ((name, Got bytes) ∷ more) work (sym e, a) (Opened bytes more refl g))
+    → ((bytes : List ℕ) → answers k name ≡ Got bytes → Comes answers (suc k) (goes bytes)) → Comes answers k (Opens name goes)
+opens_by answers k name goes (Got bytes) e told h none = h bytes e (λ more work a g. none ((name, Got bytes) ∷ more) work (sym e, a) (Opened bytes more refl g))
 opens_by answers k name goes Absent e told h none = none ((name, Absent) ∷ []) _ (sym e, tt) (Short Absent refl tt refl)
 opens_by answers k name goes Failed e told h none = none ((name, Failed) ∷ []) _ (sym e, tt) (Short Failed refl tt refl)
 opens_by answers k name goes TooLong e told h none = none ((name, TooLong) ∷ []) _ (sym e, tt) (Short TooLong refl tt refl)
 opens_by answers k name goes Unread e told h none = absurd (told refl)
 
+-- the call goes on with bytes that were answered at that place
 opens : (answers : Answering) (k : ℕ) (name : List ℕ) (goes : List ℕ → List Asked → Work → Type 0) → AllAnswer answers
-    → ((bytes : List ℕ) → Comes answers (suc k) (goes bytes)) → Comes answers k (Opens name goes)
+    → ((bytes : List ℕ) → answers k name ≡ Got bytes → Comes answers (suc k) (goes bytes)) → Comes answers k (Opens name goes)
 opens answers k name goes all h = opens_by answers k name goes (answers k name) refl (all k name) h
 
-right_if_none : (whole : Bool) (tree : Desc) → ((f : DescFault) → IsFaultOf whole tree f → ⊥) → IsRight whole tree
-right_if_none true tree none = checked_if_none tree (told tree) none
-right_if_none false tree none = typed_if_none tree none
-
-accepts_tree : (whole : Bool) (answers : Answering) (k : ℕ) (name bytes : List ℕ) (goes : Desc → List Asked → Work → Type 0) (tree : Desc) → IsTree bytes tree
-    → ((tree : Desc) → IsAccepted whole bytes tree → Comes answers k (goes tree)) → (float_places tree ≡ []) ⊎ ((at : ℕ) × IsFloat bytes at) → Comes answers k (Accepts whole name bytes goes)
-accepts_tree whole answers k name bytes goes tree is h (inl clear) none =
+accepts_tree : (answers : Answering) (k : ℕ) (name bytes : List ℕ) (goes : Desc → List Asked → Work → Type 0) (tree : Desc) → IsTree bytes tree
+    → ((tree : Desc) → IsAccepted bytes tree → Comes answers k (goes tree)) → (float_places tree ≡ []) ⊎ ((at : ℕ) × IsFloat bytes at) → Comes answers k (Accepts name bytes goes)
+accepts_tree answers k name bytes goes tree is h (inl clear) none =
     let spelled : Spells bytes tree = record { is = is; no_float = clear } in
-    let right = right_if_none whole tree (λ f x. none [] _ tt (Faulty f (Refused tree spelled x) (record { last = refl; is = refl }))) in
-    let accepted : IsAccepted whole bytes tree = record { spelled = spelled; right = right } in
+    let right = checked_if_none tree (told tree) (λ f x. none [] _ tt (Faulty f (Refused tree spelled x) (record { last = refl; is = refl }))) in
+    let accepted : IsAccepted bytes tree = record { spelled = spelled; right = right } in
     h tree accepted (λ asked work a g. none asked work a (Accepted tree accepted g))
-accepts_tree whole answers k name bytes goes tree is h (inr float) none = none [] _ tt (Faulty (faults.Float float.0) (Floating float.0 refl float.1) (record { last = refl; is = refl }))
+accepts_tree answers k name bytes goes tree is h (inr float) none = none [] _ tt (Faulty (faults.Float float.0) (Floating float.0 refl float.1) (record { last = refl; is = refl }))
 
-accepts_by : (whole : Bool) (answers : Answering) (k : ℕ) (name bytes : List ℕ) (goes : Desc → List Asked → Work → Type 0) → ((tree : Desc) → IsAccepted whole bytes tree → Comes answers k (goes tree))
-    → ((d : Desc) × IsTree bytes d) ⊎ (((at : ℕ) × HasNoTree bytes at) ⊎ ((at : ℕ) × IsStuckAt bytes at)) → Comes answers k (Accepts whole name bytes goes)
-accepts_by whole answers k name bytes goes h (inl x) none = accepts_tree whole answers k name bytes goes x.0 x.1 h (some_float bytes x.0 x.1) none
-accepts_by whole answers k name bytes goes h (inr (inl x)) none = none [] _ tt (Faulty (faults.Syntax x.0) (NoTree x.0 refl x.1) (record { last = refl; is = refl }))
-accepts_by whole answers k name bytes goes h (inr (inr x)) none = none [] _ tt (Faulty (faults.Lex x.0) (NoTokens x.0 refl x.1) (record { last = refl; is = refl }))
+accepts_by : (answers : Answering) (k : ℕ) (name bytes : List ℕ) (goes : Desc → List Asked → Work → Type 0) → ((tree : Desc) → IsAccepted bytes tree → Comes answers k (goes tree))
+    → ((d : Desc) × IsTree bytes d) ⊎ (((at : ℕ) × HasNoTree bytes at) ⊎ ((at : ℕ) × IsStuckAt bytes at)) → Comes answers k (Accepts name bytes goes)
+accepts_by answers k name bytes goes h (inl x) none = accepts_tree answers k name bytes goes x.0 x.1 h (some_float bytes x.0 x.1) none
+accepts_by answers k name bytes goes h (inr (inl x)) none = none [] _ tt (Faulty (faults.Syntax x.0) (NoTree x.0 refl x.1) (record { last = refl; is = refl }))
+accepts_by answers k name bytes goes h (inr (inr x)) none = none [] _ tt (Faulty (faults.Lex x.0) (NoTokens x.0 refl x.1) (record { last = refl; is = refl }))
 
-accepts : (whole : Bool) (answers : Answering) (k : ℕ) (name bytes : List ℕ) (goes : Desc → List Asked → Work → Type 0) → ((tree : Desc) → IsAccepted whole bytes tree → Comes answers k (goes tree)) → Comes answers k (Accepts whole name bytes goes)
-accepts whole answers k name bytes goes h = accepts_by whole answers k name bytes goes h (some_tree bytes)
+accepts : (answers : Answering) (k : ℕ) (name bytes : List ℕ) (goes : Desc → List Asked → Work → Type 0) → ((tree : Desc) → IsAccepted bytes tree → Comes answers k (goes tree)) → Comes answers k (Accepts name bytes goes)
+accepts answers k name bytes goes h = accepts_by answers k name bytes goes h (some_tree bytes)
 
-simplifies : (answers : Answering) (k : ℕ) (name : List ℕ) (tree : Desc) (goes : Description → List Asked → Work → Type 0)
-    → ((d : Description) → IsBuilt tree d → Comes answers k (goes d)) → Comes answers k (Simplifies name tree goes)
-simplifies answers k name tree goes h none =
-    none [] _ tt (Other (λ d built. h d built (λ asked work a g. none asked work a (Plain d built g))) (record { last = refl; is = refl }))
+sizes : (answers : Answering) (k : ℕ) (tree : Desc) (goes : ℕ → List Asked → Work → Type 0) → IsChecked tree
+    → ((width : ℕ) → IsWordWidth (table tree) width → Comes answers k (goes width)) → Comes answers k (Sizes tree goes)
+sizes answers k tree goes checked h none = let s = some_summary tree checked in h s.1 s.2.width_is (λ asked work a g. none asked work a (Sized s.1 s.2.width_is g))
 
 -- ---- `check`
 
@@ -95,23 +96,42 @@ sums_up answers k tree checked none = let s = some_summary tree checked in none 
 
 -- ---- `asm`
 
-text_by : (answers : Answering) (k : ℕ) (s i bytes : List ℕ) (d : Description) (text : List ℕ) (fit : Bool) → is_fit d text ≡ fit → Comes answers k (AssemblesTo s i bytes d text)
-text_by answers k s i bytes d text false e none = none [] _ tt (NotPlain e (record { last = refl; is = refl }))
-text_by answers k s i bytes d text true e none =
-    not_neither d (lines text) (λ words h. none [] (made i bytes d words) tt (Words e words h refl refl))
-    (λ line h. none [] _ tt (NoMatch e line h (record { last = refl; is = refl })))
+assembles : (answers : Answering) (k : ℕ) (name image bytes : List ℕ) (d : Desc) (width : ℕ) (text : List ℕ) → IsChecked d
+    → Comes answers k (AssemblesTo name image bytes (table d) width text)
+assembles answers k name image bytes d width text checked none =
+    some_answer d width text checked (λ words inits h. none [] (made image (picture bytes width words inits)) tt (Words words inits h refl refl))
+    (λ f some h. none [] _ tt (FaultyText f some h (record { last = refl; is = refl })))
+
+-- ---- images
+
+loads_by : (answers : Answering) (k : ℕ) (name bytes : List ℕ) (t : Table) (width : ℕ) (bits : List ℕ) (goes : Picture → List Asked → Work → Type 0) (r : Result Picture ImageFault)
+    → IsAnswer (measures t width) (sha256 bytes) bits r → ((i : Picture) → Comes answers k (goes i)) → Comes answers k (Loads name bytes t width bits goes)
+loads_by answers k name bytes t width bits goes (Err f) is h none = none [] _ tt (FaultyImage f is.0 is.1 (record { last = refl; is = refl }))
+loads_by answers k name bytes t width bits goes (Ok i) is h none = h i (λ asked work a g. none asked work a (Loaded i is g))
+
+loads : (answers : Answering) (k : ℕ) (name bytes : List ℕ) (t : Table) (width : ℕ) (bits : List ℕ) (goes : Picture → List Asked → Work → Type 0) → AreBytes bits
+    → ((i : Picture) → Comes answers k (goes i)) → Comes answers k (Loads name bytes t width bits goes)
+loads answers k name bytes t width bits goes are h =
+    let r = images.some_answer (measures t width) (sha256 bytes) bits are in loads_by answers k name bytes t width bits goes r.0 r.1 h
+
+-- ---- `dis`
+
+-- it can't be that an image comes to no text
+pub some_shown : (d : Desc) (width : ℕ) (i : Picture) → ((work : Work) → DisassemblesTo (table d) width i [] work → ⊥) → ⊥
+some_shown d width i none =
+    some_canonical d width i.words (initials i) (λ text h. none (telling (disassembled text)) (Shown text h (record { last = refl; is = refl })))
 
 -- ---- `run`
 
-loads : (answers : Answering) (k : ℕ) (name bytes : List ℕ) (d : Description) (bits : List ℕ) (goes : List ℕ → List Asked → Work → Type 0) → ((words : List ℕ) → Comes answers k (goes words))
-    → Comes answers k (Loads name bytes d bits goes)
-loads answers k name bytes d bits goes h none =
-    none [] _ tt (NoImage (λ i is. h i.words (λ asked work a g. none asked work a (Loaded i is g))) (record { last = refl; is = refl }))
+some_numbers : (x : List ℕ) (steps : ℕ) (t : Table) (i : Picture) (text : List ℕ) (r : Result (List ℤ) ℕ) → numbers (input_type t) text ≡ r
+    → ((work : Work) → RunsTo x steps t i text [] work → ⊥) → ⊥
+some_numbers x steps t i text (Err line) e none = none (telling (bad_input x line)) (Input line e (record { last = refl; is = refl }))
+some_numbers x steps t i text (Ok found) e none =
+    some_run t i.words steps (record { cells = first_cells t (initials i); input = found }) (λ r runs. none (telling (told_run r)) (Ran found e r runs (record { last = refl; is = refl })))
 
-runs_by : (answers : Answering) (k : ℕ) (x : List ℕ) (steps : ℕ) (d : Description) (words text : List ℕ) (line : Option ℕ) → first_input 1 (lines text) ≡ line
-    → (o : RunOutcome) × Runs d words steps (beginning d) o → Comes answers k (RunsTo x steps d words text)
-runs_by answers k x steps d words text (Some line) e r none = none [] _ tt (Input line e (record { last = refl; is = refl }))
-runs_by answers k x steps d words text None e r none = none [] (telling (told_run r.0)) tt (Ran e r.0 r.1 (record { last = refl; is = refl }))
+-- and that its run on an input comes to nothing
+pub some_told : (x : List ℕ) (steps : ℕ) (t : Table) (i : Picture) (text : List ℕ) → ((work : Work) → RunsTo x steps t i text [] work → ⊥) → ⊥
+some_told x steps t i text none = some_numbers x steps t i text (numbers (input_type t) text) refl none
 
 -- ---- `ceval`
 
@@ -142,32 +162,37 @@ evaluates_by answers k x turns n tree text (Ok found) e none = none [] _ tt (Eva
 
 -- ---- any words
 
-comes : (answers : Answering) (form : Option Form) → AllAnswer answers → Comes answers 0 (ComesTo form)
-comes answers None all = ends answers 0 _
-comes answers (Some (Asm d s i)) all =
+comes : (answers : Answering) (form : Option Form) → AllAnswer answers → AreReadable answers → Comes answers 0 (ComesTo form)
+comes answers None all are = ends answers 0 _
+comes answers (Some (Check d)) all are = opens answers 0 d _ all (λ bytes e. accepts answers 1 d bytes _ (λ tree a. sums_up answers 1 tree a.right))
+comes answers (Some (Asm d s i)) all are =
     opens answers 0 d _ all
-    (λ bytes. accepts false answers 1 d bytes _
-    (λ tree a. simplifies answers 1 d tree _
-    (λ p built. opens answers 1 s _ all (λ text. text_by answers 2 s i bytes p text (is_fit p text) refl))))
-comes answers (Some (Run d i x n)) all =
+    (λ bytes e. accepts answers 1 d bytes _
+    (λ tree a. sizes answers 1 tree _ a.right (λ width is. opens answers 1 s _ all (λ text f. assembles answers 2 s i bytes tree width text a.right))))
+comes answers (Some (Dis d i)) all are =
     opens answers 0 d _ all
-    (λ bytes. accepts false answers 1 d bytes _
-    (λ tree a. simplifies answers 1 d tree _
-    (λ p built. opens answers 1 i _ all
-    (λ bits. loads answers 2 i bytes p bits _
-    (λ words. opens answers 2 x _ all (λ text. runs_by answers 3 x n p words text (first_input 1 (lines text)) refl (has_outcome p words n (beginning p) built.plain.plain)))))))
-comes answers (Some (Check d)) all = opens answers 0 d _ all (λ bytes. accepts true answers 1 d bytes _ (λ tree a. sums_up answers 1 tree a.right))
-comes answers (Some (Dis d i)) all = ends answers 0 _
-comes answers (Some (Cc d s i)) all = ends answers 0 _
-comes answers (Some (Ceval d s x turns)) all =
+    (λ bytes e. accepts answers 1 d bytes _
+    (λ tree a. sizes answers 1 tree _ a.right
+    (λ width is. opens answers 1 i _ all
+    (λ bits f. loads answers 2 i bytes (table tree) width bits _ (are 1 i bits f)
+    (λ image none. some_shown tree width image (λ work shown. none [] work tt shown))))))
+comes answers (Some (Run d i x n)) all are =
     opens answers 0 d _ all
-    (λ bytes. accepts true answers 1 d bytes _
+    (λ bytes e. accepts answers 1 d bytes _
+    (λ tree a. sizes answers 1 tree _ a.right
+    (λ width is. opens answers 1 i _ all
+    (λ bits f. loads answers 2 i bytes (table tree) width bits _ (are 1 i bits f)
+    (λ image. opens answers 2 x _ all (λ text g none. some_told x n (table tree) image text (λ work told. none [] work tt told)))))))
+comes answers (Some (Cc d s i)) all are = ends answers 0 _
+comes answers (Some (Ceval d s x turns)) all are =
+    opens answers 0 d _ all
+    (λ bytes e. accepts answers 1 d bytes _
     (λ tree a. targets_by answers 1 d tree _ (target tree) refl
     (λ n. opens answers 1 s _ all
-    (λ text. compiles_by answers 2 s text n _
-    (λ program. opens answers 2 x _ all (λ entry. evaluates_by answers 3 x turns n program entry (numbers (Some (ty.Int n)) entry) refl))
+    (λ text f. compiles_by answers 2 s text n _
+    (λ program. opens answers 2 x _ all (λ entry g. evaluates_by answers 3 x turns n program entry (numbers (Some (ty.Int n)) entry) refl))
     (some_bytes text)))))
-comes answers (Some (Demo k)) all = ends answers 0 _
+comes answers (Some (Demo k)) all are = ends answers 0 _
 
-pub some_work : (answers : Answering) (form : Option Form) → AllAnswer answers → ((work : Work) → ComesOut answers form work → ⊥) → ⊥
-some_work answers form all none = comes answers form all (λ asked work a g. none work (record { asked = asked; answered = a; comes = g }))
+pub some_work : (answers : Answering) (form : Option Form) → AllAnswer answers → AreReadable answers → ((work : Work) → ComesOut answers form work → ⊥) → ⊥
+some_work answers form all are none = comes answers form all are (λ asked work a g. none work (record { asked = asked; answered = a; comes = g }))

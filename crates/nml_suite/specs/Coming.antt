@@ -1,34 +1,38 @@
 -- What a call comes to, by the words and what each read answered: the files in the order of the words, each with its own refusals.
 -- Each step takes what was asked for, in order, and goes on with the rest of it; at the end nothing more is asked for.
-use Rattle.std.specs.Prelude.{◌≡◌, ℕ, ◌+◌, ◌^◌, List, [], ◌∷◌, ℤ, Ok, Err, Option, Some, None, IsTrue, IsFalse, if◌then◌else◌, Bool, true, false}
-use Rattle.std.specs.List.{list_all}
+use Rattle.std.specs.Prelude.{◌≡◌, ℕ, List, [], ◌∷◌, map, ℤ, Ok, Err, Option, Some, None}
 use Rattle.sha2.specs.Sha256.{sha256}
-use Rattle.nk_base.specs.Byte.{is_blank}
-use Rattle.plain_tree.specs.Description.{Description}
-use Rattle.plain_tree.specs.IsPlain.{word_width, pc_width}
 use Rattle.nml_tree.specs.declared.tree.Desc.{Desc}
-use Rattle.nml_tree.specs.Table.{table}
+use Rattle.nml_tree.specs.Table.{Table, table}
+use Rattle.nml_tree.specs.Machine.{Initial, RunOutcome, RunsImage}
+use Rattle.nml_tree.specs.Valid.{IsWordWidth}
 use Rattle.nml_tree.specs.declared.fault.DescFault.{DescFault}
 use Rattle.nml_types.specs.Summary.{IsSummary}
 use Rattle.image_file.specs.File.{Picture, file}
-use Rattle.plain_tools.specs.PlainImage.{IsPlainImage}
-use Rattle.plain_tools.specs.Assembly.{Assembles, FailsAt, is_fit}
-use Rattle.plain_tools.specs.PlainText.{lines}
-use Rattle.plain_tools.specs.Machine.{Runs, beginning}
-use Rattle.plain_tools.specs.Machine as machine
+use Rattle.image_file.specs.Measured.{measures, stored, initial}
+use Rattle.image_file.specs.Refused as image
+use Rattle.image_file.specs.Valid.{IsImageOf}
+use Rattle.image_file.specs.declared.fault.ImageFault.{ImageFault}
+use Rattle.image_file.specs.declared.fault.ImageFault.TheVariants as image_faults
+use Rattle.asm_text.specs.Answer.{IsAssembled}
+use Rattle.asm_text.specs.Canonical.{IsCanonical}
+use Rattle.asm_text.specs.Refused as source
+use Rattle.asm_text.specs.declared.fault.AsmFault.{AsmFault}
+use Rattle.asm_text.specs.declared.fault.AsmFault.TheVariants as source_faults
 use Rattle.nml_target.specs.Target.{target}
 use Rattle.nml_target.specs.declared.width.Lacking.{Lacking}
 use Rattle.nk_base.specs.declared.number.Ty.TheVariants as ty
 use Rattle.input_lines.specs.Input.{numbers}
+use Rattle.input_port.specs.Port.{input_type}
 use Rattle.c_tree.specs.declared.program.CTree.{CTree}
 use Rattle.c_tree.specs.declared.fault.CFault.{CFault}
 use Rattle.c_tree.specs.Meaning.{outcome}
 use Rattle.c_tree.specs.Resolve.{resolved}
-use Rattle.nml_suite.specs.Described.{HasFault, IsAccepted, IsBuilt}
+use Rattle.nml_suite.specs.Described.{HasFault, IsAccepted}
 use Rattle.nml_suite.specs.Programs.{HasProgramFault, IsProgram}
 use Rattle.nml_command.specs.Form.{Form, Check, Asm, Dis, Run, Cc, Ceval, Demo}
 use Rattle.nml_suite.specs.Reading.{Reading, Got, Asked, IsShort}
-use Rattle.nml_suite.specs.Reply.{Reply, reply, unread, usage_line, description_fault, not_built, not_built_file, accepted, no_match, bad_input, assembled, told_run, no_target, program_fault, told_outcome}
+use Rattle.nml_suite.specs.Reply.{Reply, reply, unread, usage_line, description_fault, text_fault, image_fault, not_built, accepted, bad_input, assembled, disassembled, told_run, no_target, program_fault, told_outcome}
 use Rattle.nml_suite.specs.Work.{Work, Written, telling}
 use Rattle.nml_suite.specs.declared.status.Status.TheVariants as statuses
 
@@ -45,14 +49,13 @@ pub data Opens (name : List ℕ) (goes : List ℕ → List Asked → Work → Ty
   Opened : (bytes : List ℕ) (more : List Asked) → asked ≡ (name, Got bytes) ∷ more → goes bytes more work → Opens name goes asked work
 
 -- Bytes are looked at as a description: where they have a fault the call ends with that, else it goes on with the tree.
-pub data Accepts (whole : Bool) (name bytes : List ℕ) (goes : Desc → List Asked → Work → Type 0) (asked : List Asked) (work : Work) : Type 0 where
-  Faulty : (fault : DescFault) → HasFault whole bytes fault → EndsWith (description_fault name fault) asked work → Accepts whole name bytes goes asked work
-  Accepted : (tree : Desc) → IsAccepted whole bytes tree → goes tree asked work → Accepts whole name bytes goes asked work
+pub data Accepts (name bytes : List ℕ) (goes : Desc → List Asked → Work → Type 0) (asked : List Asked) (work : Work) : Type 0 where
+  Faulty : (fault : DescFault) → HasFault bytes fault → EndsWith (description_fault name fault) asked work → Accepts name bytes goes asked work
+  Accepted : (tree : Desc) → IsAccepted bytes tree → goes tree asked work → Accepts name bytes goes asked work
 
--- A tree is looked at as a plain description: where it is none that is built the call ends with that, else it goes on with it.
-pub data Simplifies (name : List ℕ) (tree : Desc) (goes : Description → List Asked → Work → Type 0) (asked : List Asked) (work : Work) : Type 0 where
-  Other : ((d : Description) → IsBuilt tree d → ⊥) → EndsWith (not_built_file name) asked work → Simplifies name tree goes asked work
-  Plain : (d : Description) → IsBuilt tree d → goes d asked work → Simplifies name tree goes asked work
+-- An accepted description is looked at as a machine: the call goes on with how many bits its words have.
+pub data Sizes (tree : Desc) (goes : ℕ → List Asked → Work → Type 0) (asked : List Asked) (work : Work) : Type 0 where
+  Sized : (width : ℕ) → IsWordWidth (table tree) width → goes width asked work → Sizes tree goes asked work
 
 -- ---- `check`
 
@@ -62,70 +65,83 @@ pub data SumsUp (tree : Desc) (asked : List Asked) (work : Work) : Type 0 where
 
 -- what `check` comes to
 abbrev pub CheckComesTo : List ℕ → List Asked → Work → Type 0
-CheckComesTo description = Opens description (λ bytes. Accepts true description bytes SumsUp)
+CheckComesTo description = Opens description (λ bytes. Accepts description bytes SumsUp)
 
 -- ---- `asm`
 
--- the image of a text's words: it carries the digest of the description's bytes, and has no data cells
-abbrev pub picture : List ℕ → Description → List ℕ → Picture
-picture bytes d words = record { digest = sha256 bytes; width = word_width d.rules; words = words; inits = [] }
+-- the image of a text's words and initial values: it carries the digest of the description's bytes
+abbrev pub picture : List ℕ → ℕ → List ℕ → List Initial → Picture
+picture bytes width words inits = record { digest = sha256 bytes; width = width; words = words; inits = map stored inits }
 
 -- the image's file
-abbrev pub written_image : List ℕ → List ℕ → Description → List ℕ → Written
-written_image name bytes d words = record { name = name; bytes = file (picture bytes d words) }
+abbrev pub written_image : List ℕ → Picture → Written
+written_image name i = record { name = name; bytes = file i }
 
--- what the words of a text come to
-abbrev pub made : List ℕ → List ℕ → Description → List ℕ → Work
-made image bytes d words = record { file = Some (written_image image bytes d words); reply = assembled (word_width d.rules) words }
+-- what an image that was assembled comes to
+abbrev pub made : List ℕ → Picture → Work
+made name i = record { file = Some (written_image name i); reply = assembled i.width i.words }
 
--- What `asm` comes to on a description, which these bytes are, and the bytes of a text.
-pub data AssemblesTo (source image bytes : List ℕ) (d : Description) (text : List ℕ) (asked : List Asked) (work : Work) : Type 0 where
-  NotPlain : IsFalse (is_fit d text) → EndsWith (not_built_file source) asked work → AssemblesTo source image bytes d text asked work
-  NoMatch : IsTrue (is_fit d text) → (line : ℕ) → FailsAt d (lines text) line → EndsWith (no_match source line) asked work
-      → AssemblesTo source image bytes d text asked work
-  Words : IsTrue (is_fit d text) → (words : List ℕ) → Assembles d (lines text) words → asked ≡ [] → work ≡ made image bytes d words
-      → AssemblesTo source image bytes d text asked work
+-- What `asm` comes to on a description, which these bytes are and whose words have so many bits, and the bytes of a text.
+pub data AssemblesTo (name image bytes : List ℕ) (t : Table) (width : ℕ) (text : List ℕ) (asked : List Asked) (work : Work) : Type 0 where
+  FaultyText : (fault : AsmFault) → (fault ≡ source_faults.Memory → ⊥) → source.IsRefused t width text fault → EndsWith (text_fault name fault) asked work
+      → AssemblesTo name image bytes t width text asked work
+  Words : (words : List ℕ) (inits : List Initial) → IsAssembled t width text words inits → asked ≡ [] → work ≡ made image (picture bytes width words inits)
+      → AssemblesTo name image bytes t width text asked work
 
 -- what `asm` comes to: the description first, then the text
 abbrev pub AsmComesTo : List ℕ → List ℕ → List ℕ → List Asked → Work → Type 0
-AsmComesTo description source image =
+AsmComesTo description text image =
     Opens description
-    (λ bytes. Accepts false description bytes
-    (λ tree. Simplifies description tree
-    (λ d. Opens source (AssemblesTo source image bytes d))))
+    (λ bytes. Accepts description bytes
+    (λ tree. Sizes tree
+    (λ width. Opens text (AssemblesTo text image bytes (table tree) width))))
+
+-- ---- images
+
+-- Bits are looked at as an image of a description, which these bytes are: where they have a fault the call ends with that, else it goes on
+-- with the image.
+pub data Loads (name bytes : List ℕ) (t : Table) (width : ℕ) (bits : List ℕ) (goes : Picture → List Asked → Work → Type 0) (asked : List Asked) (work : Work) : Type 0 where
+  FaultyImage : (fault : ImageFault) → (fault ≡ image_faults.Memory → ⊥) → image.IsRefused (measures t width) (sha256 bytes) bits fault
+      → EndsWith (image_fault name fault) asked work → Loads name bytes t width bits goes asked work
+  Loaded : (i : Picture) → IsImageOf (measures t width) (sha256 bytes) bits i → goes i asked work → Loads name bytes t width bits goes asked work
+
+-- the initial values of an image
+abbrev pub initials : Picture → List Initial
+initials i = map initial i.inits
+
+-- ---- `dis`
+
+-- what `dis` comes to on an image
+pub data DisassemblesTo (t : Table) (width : ℕ) (i : Picture) (asked : List Asked) (work : Work) : Type 0 where
+  Shown : (text : List ℕ) → IsCanonical t width i.words (initials i) text → EndsWith (disassembled text) asked work → DisassemblesTo t width i asked work
+
+-- what `dis` comes to: the description first, then the image
+abbrev pub DisComesTo : List ℕ → List ℕ → List Asked → Work → Type 0
+DisComesTo description image =
+    Opens description
+    (λ bytes. Accepts description bytes
+    (λ tree. Sizes tree
+    (λ width. Opens image
+    (λ bits. Loads image bytes (table tree) width bits (DisassemblesTo (table tree) width)))))
 
 -- ---- `run`
 
--- the bits are the file of this image, which has the description's words and carries the digest of its bytes
-pub record IsImageOf (bytes : List ℕ) (d : Description) (bits : List ℕ) (i : Picture) : Type 0 where
-  pub plain : IsPlainImage (word_width d.rules) (2 ^ pc_width d.regs) (sha256 bytes) i
-  pub is : bits ≡ file i
-
--- Bits are looked at as an image: where they are none the call ends with that, else it goes on with its words.
-pub data Loads (name bytes : List ℕ) (d : Description) (bits : List ℕ) (goes : List ℕ → List Asked → Work → Type 0) (asked : List Asked) (work : Work) : Type 0 where
-  NoImage : ((i : Picture) → IsImageOf bytes d bits i → ⊥) → EndsWith (not_built_file name) asked work → Loads name bytes d bits goes asked work
-  Loaded : (i : Picture) → IsImageOf bytes d bits i → goes i.words asked work → Loads name bytes d bits goes asked work
-
--- the number of the first line that isn't blank, the first being counted as this one
-abbrev pub first_input : ℕ → List (List ℕ) → Option ℕ
-first_input number [] = None
-first_input number (line ∷ more) = if list_all is_blank line then first_input (number + 1) more else Some number
-
--- What `run` comes to on a description, the words of an image, and the bytes of an input. There is no input port, so no number is taken.
-pub data RunsTo (input : List ℕ) (steps : ℕ) (d : Description) (words text : List ℕ) (asked : List Asked) (work : Work) : Type 0 where
-  Input : (line : ℕ) → first_input 1 (lines text) ≡ Some line → EndsWith (bad_input input line) asked work → RunsTo input steps d words text asked work
-  Ran : first_input 1 (lines text) ≡ None → (r : machine.RunOutcome) → Runs d words steps (beginning d) r → EndsWith (told_run r) asked work
-      → RunsTo input steps d words text asked work
+-- What `run` comes to on an image and the bytes of an input: the run of the image's words and initial values on the numbers of the input, for
+-- at most so many steps.
+pub data RunsTo (input : List ℕ) (steps : ℕ) (t : Table) (i : Picture) (text : List ℕ) (asked : List Asked) (work : Work) : Type 0 where
+  Input : (line : ℕ) → numbers (input_type t) text ≡ Err line → EndsWith (bad_input input line) asked work → RunsTo input steps t i text asked work
+  Ran : (found : List ℤ) → numbers (input_type t) text ≡ Ok found → (r : RunOutcome) → RunsImage t i.words (initials i) found steps r → EndsWith (told_run r) asked work
+      → RunsTo input steps t i text asked work
 
 -- what `run` comes to: the description first, then the image, then the input
 abbrev pub RunComesTo : List ℕ → List ℕ → List ℕ → ℕ → List Asked → Work → Type 0
 RunComesTo description image input steps =
     Opens description
-    (λ bytes. Accepts false description bytes
-    (λ tree. Simplifies description tree
-    (λ d. Opens image
-    (λ bits. Loads image bytes d bits
-    (λ words. Opens input (RunsTo input steps d words))))))
+    (λ bytes. Accepts description bytes
+    (λ tree. Sizes tree
+    (λ width. Opens image
+    (λ bits. Loads image bytes (table tree) width bits
+    (λ i. Opens input (RunsTo input steps (table tree) i))))))
 
 -- ---- `ceval`
 
@@ -150,7 +166,7 @@ pub data EvaluatesTo (input : List ℕ) (turns n : ℕ) (tree : CTree) (text : L
 abbrev pub CevalComesTo : List ℕ → List ℕ → List ℕ → ℕ → List Asked → Work → Type 0
 CevalComesTo description source input turns =
     Opens description
-    (λ bytes. Accepts true description bytes
+    (λ bytes. Accepts description bytes
     (λ tree. Targets description tree
     (λ n. Opens source
     (λ text. Compiles source text n
@@ -161,10 +177,10 @@ CevalComesTo description source input turns =
 -- What the words come to, by what was asked for and answered. Want of memory has no part in it.
 abbrev pub ComesTo : Option Form → List Asked → Work → Type 0
 ComesTo None = EndsWith (reply statuses.Usage usage_line)
-ComesTo (Some (Asm d s i)) = AsmComesTo d s i
-ComesTo (Some (Run d i x n)) = RunComesTo d i x n
 ComesTo (Some (Check d)) = CheckComesTo d
-ComesTo (Some (Dis d i)) = EndsWith not_built
-ComesTo (Some (Cc d c i)) = EndsWith not_built
+ComesTo (Some (Asm d s i)) = AsmComesTo d s i
+ComesTo (Some (Dis d i)) = DisComesTo d i
+ComesTo (Some (Run d i x n)) = RunComesTo d i x n
 ComesTo (Some (Ceval d c x n)) = CevalComesTo d c x n
+ComesTo (Some (Cc d c i)) = EndsWith not_built
 ComesTo (Some (Demo k)) = EndsWith not_built

@@ -3,6 +3,7 @@ use Rattle.std.specs.Prelude.{◌≡◌, ◌⊎◌, ℕ, suc, List, [], ◌∷�
 use Rattle.nk_outside.specs.Count.{Rose}
 use Rattle.nk_outside.specs.Held.{Names, file_limit}
 use Rattle.nk_outside.specs.Taken.{Took}
+use Rattle.image_file.specs.Valid.{AreBytes}
 use Rattle.nml_suite.specs.Answer.{Moment}
 use Rattle.nml_suite.specs.Coming.{ComesTo}
 use Rattle.nml_suite.specs.Files.{Leaves}
@@ -32,6 +33,10 @@ pub record ComesOut (answers : Answering) (form : Option Form) (work : Work) : T
 -- each read is answered, and none wants memory
 abbrev pub AllAnswer : Answering → Type 0
 AllAnswer answers = (place : ℕ) (name : List ℕ) → answers place name ≡ Unread → ⊥
+
+-- each read that gives bytes gives numbers below 256
+abbrev pub AreReadable : Answering → Type 0
+AreReadable answers = (place : ℕ) (name bytes : List ℕ) → answers place name ≡ Got bytes → AreBytes bytes
 
 -- what a read answers by what a name holds, where it doesn't fail
 abbrev pub reading_of : Option (List ℕ) → Reading

@@ -1,29 +1,39 @@
 -- For private contracts: what a refusal tells, what a step of a command refuses, and what the reading of its files comes to.
-use Rattle.std.specs.Prelude.{◌≡◌, ◌⊎◌, ℕ, List, [], ◌∷◌, ◌++◌, ℤ, ◌≤◌, Some, None, Result, Ok, Err, IsTrue, IsFalse, Bool, true, false}
+use Rattle.std.specs.Prelude.{◌≡◌, ◌⊎◌, ℕ, List, [], ◌∷◌, ◌++◌, ℤ, ◌≤◌, Option, Some, Result, Ok, Err}
 use Rattle.std.specs.Global.{Vec}
-use Rattle.plain_tree.specs.Description.{Description, description_of}
-use Rattle.plain_tree.specs.IsPlain.{word_width}
+use Rattle.sha2.specs.Sha256.{sha256}
+use Rattle.nk_base.specs.declared.number.Ty.{Ty}
 use Rattle.nml_tree.specs.declared.tree.Desc.{Desc}
 use Rattle.nml_tree.specs.declared.fault.DescFault.{DescFault}
-use Rattle.plain_tree.specs.declared.rules.Plain.{Plain}
-use Rattle.image_file.specs.File.{Picture}
-use Rattle.image_file.specs.Seen.{picture_of}
+use Rattle.nml_tree.specs.Machine.{RunOutcome, RunsImage}
+use Rattle.nml_tree.specs.Refused.{IsChecked}
+use Rattle.nml_tree.specs.Table.{Table, table}
+use Rattle.nml_refusals.specs.TreeFault.{IsTreeFault}
+use Rattle.image_file.specs.File.{Picture, HasFile, file}
+use Rattle.image_file.specs.Measured.{measures}
+use Rattle.image_file.specs.Refused as image
+use Rattle.image_file.specs.Seen.{picture_of, measures_of}
+use Rattle.image_file.specs.Valid.{IsImageOf}
+use Rattle.image_file.specs.declared.fault.ImageFault.{ImageFault}
+use Rattle.image_file.specs.declared.fault.ImageFault.TheVariants as image_faults
 use Rattle.image_file.specs.declared.image.Image.{Image}
-use Rattle.plain_tools.specs.Assembly.{Assembles, FailsAt, is_fit}
-use Rattle.plain_tools.specs.PlainText.{lines}
-use Rattle.plain_tools.specs.Machine.{Runs, beginning}
-use Rattle.plain_tools.specs.Machine as machine
+use Rattle.image_file.specs.declared.layout.Layout.{Layout}
+use Rattle.isg_graph.specs.Graph.{Graph, IsGraph}
+use Rattle.asm_text.specs.Canonical.{IsCanonical}
+use Rattle.asm_text.specs.Refused as source
+use Rattle.asm_text.specs.declared.fault.AsmFault.{AsmFault}
+use Rattle.asm_text.specs.declared.fault.AsmFault.TheVariants as source_faults
+use Rattle.asm_tool.specs.Made.{IsImageOfText}
 use Rattle.nk_outside.specs.Count.{Rose}
 use Rattle.nk_outside.specs.Held.{SameElsewhere}
 use Rattle.nml_suite.specs.Answer.{AreNamed}
-use Rattle.nml_suite.specs.Coming.{EndsWith, IsImageOf, RunComesTo, written_image, first_input}
-use Rattle.nml_tree.specs.Table.{table}
+use Rattle.nml_suite.specs.Coming.{EndsWith, RunComesTo, initials}
 use Rattle.nml_types.specs.Summary.{IsSummary}
 use Rattle.nml_types.specs.declared.checking.Summary.{Summary}
 use Rattle.nml_target.specs.Target.{target}
 use Rattle.nml_target.specs.declared.width.Lacking.{Lacking}
-use Rattle.nk_base.specs.declared.number.Ty.TheVariants as ty
 use Rattle.input_lines.specs.Input.{numbers}
+use Rattle.input_port.specs.Port.{input_type}
 use Rattle.c_tree.specs.declared.program.CTree.{CTree}
 use Rattle.c_tree.specs.declared.fault.CFault.{CFault}
 use Rattle.c_tree.specs.declared.fault.CFault.TheVariants as program_faults
@@ -33,9 +43,9 @@ use Rattle.c_tree.specs.Resolve.{resolved}
 use Rattle.c_grammar.specs.Trees.{IsTree}
 use Rattle.nml_suite.specs.Programs.{HasProgramFault, IsProgram}
 use Rattle.nml_suite.specs.declared.ceval.Prepared.{Prepared}
-use Rattle.nml_suite.specs.Described.{HasFault, IsFaultOf, IsRight, Spells, IsAccepted, IsBuilt, Describes}
+use Rattle.nml_suite.specs.Described.{HasFault, Spells, IsAccepted}
 use Rattle.nml_suite.specs.Reading.{Store, Reading, Got, Absent, Failed, TooLong, IsShort, Asked, IsRead, AreRead}
-use Rattle.nml_suite.specs.Reply.{Reply, starved, unread, write_failed, description_fault, not_built_file, accepted, no_match, bad_input, assembled, told_run, no_target, program_fault, told_outcome}
+use Rattle.nml_suite.specs.Reply.{Reply, starved, unread, write_failed, description_fault, text_fault, image_fault, accepted, bad_input, assembled, disassembled, told_run, no_target, program_fault, told_outcome}
 use Rattle.nml_suite.specs.Work.{Work, Written, telling, IsWriteCall, HasWritten}
 use Rattle.nml_suite.specs.declared.assemble.Assembled.{Assembled}
 use Rattle.nml_suite.specs.declared.ready.Ready.{Ready}
@@ -49,8 +59,8 @@ refused (refusals.Failed name) = unread name.now Failed
 refused (refusals.TooLong name) = unread name.now TooLong
 refused (refusals.Unwritten name) = write_failed name.now
 refused (refusals.Description name fault) = description_fault name.now fault
-refused (refusals.NotBuilt name) = not_built_file name.now
-refused (refusals.NoMatch name line) = no_match name.now line
+refused (refusals.Source name fault) = text_fault name.now fault
+refused (refusals.Image name fault) = image_fault name.now fault
 refused (refusals.Input name line) = bad_input name.now line
 refused (refusals.Program name fault) = program_fault name.now fault
 refused (refusals.NoTarget name what) = no_target name.now what
@@ -91,50 +101,41 @@ IsLoaded before now name (Err refusal) = IsUnread before now name (refused refus
 -- ---- the description
 
 -- the bytes of this name have a fault
-pub record IsFaulty (whole : Bool) (name bytes : List ℕ) (told : Reply) : Type 0 where
+pub record IsFaulty (name bytes : List ℕ) (told : Reply) : Type 0 where
   pub fault : DescFault
-  pub faulty : HasFault whole bytes fault
+  pub faulty : HasFault bytes fault
   pub is : told ≡ description_fault name fault
 
 -- the bytes spell a tree, or they have a fault, or memory was wanted
-abbrev pub IsSpelledAs : (whole : Bool) → List ℕ → List ℕ → Result Desc Refusal → Type 0
-IsSpelledAs whole name bytes (Ok tree) = Spells bytes tree
-IsSpelledAs whole name bytes (Err refusal) = Wants refusal ⊎ IsFaulty whole name bytes (refused refusal)
+abbrev pub IsSpelledAs : List ℕ → List ℕ → Result Desc Refusal → Type 0
+IsSpelledAs name bytes (Ok tree) = Spells bytes tree
+IsSpelledAs name bytes (Err refusal) = Wants refusal ⊎ IsFaulty name bytes (refused refusal)
 
 -- the tree has a fault, which is told
-pub record IsRefusedTree (whole : Bool) (name : List ℕ) (tree : Desc) (told : Reply) : Type 0 where
+pub record IsRefusedTree (name : List ℕ) (tree : Desc) (told : Reply) : Type 0 where
   pub fault : DescFault
-  pub faulty : IsFaultOf whole tree fault
+  pub faulty : IsTreeFault tree fault
   pub is : told ≡ description_fault name fault
 
 -- the tree is right, or it has a fault, or memory was wanted
-abbrev pub IsCheckedAs : (whole : Bool) → List ℕ → Desc → Result Desc Refusal → Type 0
-IsCheckedAs whole name tree (Ok t) = (t ≡ tree) × IsRight whole tree
-IsCheckedAs whole name tree (Err refusal) = Wants refusal ⊎ IsRefusedTree whole name tree (refused refusal)
+abbrev pub IsCheckedAs : List ℕ → Desc → Result Desc Refusal → Type 0
+IsCheckedAs name tree (Ok t) = (t ≡ tree) × IsChecked tree
+IsCheckedAs name tree (Err refusal) = Wants refusal ⊎ IsRefusedTree name tree (refused refusal)
 
 -- the bytes are accepted, or they have a fault, or memory was wanted
-abbrev pub IsReadAs : (whole : Bool) → List ℕ → List ℕ → Result Desc Refusal → Type 0
-IsReadAs whole name bytes (Ok tree) = IsAccepted whole bytes tree
-IsReadAs whole name bytes (Err refusal) = Wants refusal ⊎ IsFaulty whole name bytes (refused refusal)
+abbrev pub IsReadAs : List ℕ → List ℕ → Result Desc Refusal → Type 0
+IsReadAs name bytes (Ok tree) = IsAccepted bytes tree
+IsReadAs name bytes (Err refusal) = Wants refusal ⊎ IsFaulty name bytes (refused refusal)
 
--- the tree is the description, or none that is built, or memory was wanted
-abbrev pub IsDescribedBy : List ℕ → Desc → Result Plain Refusal → Type 0
-IsDescribedBy name tree (Ok p) = IsBuilt tree (description_of p)
-IsDescribedBy name tree (Err refusal) =
-    Wants refusal ⊎ ((refused refusal ≡ not_built_file name) × ((d : Description) → IsBuilt tree d → ⊥))
+-- it is the graph of the tree, or memory was wanted
+abbrev pub IsBuiltOf : Desc → Result Graph Refusal → Type 0
+IsBuiltOf tree (Ok g) = (g.desc ≡ tree) × IsGraph g
+IsBuiltOf tree (Err refusal) = Wants refusal
 
--- the bytes are accepted, and are no plain description that is built
-pub record IsNoDescription (name bytes : List ℕ) (told : Reply) : Type 0 where
-  pub tree : Desc
-  pub accepted : IsAccepted false bytes tree
-  pub none : (d : Description) → IsBuilt tree d → ⊥
-  pub is : told ≡ not_built_file name
-
--- the bytes are the description; or they have a fault, or are none, or memory was wanted
-abbrev pub IsDescribed : List ℕ → List ℕ → Result Plain Refusal → Type 0
-IsDescribed name bytes (Ok p) = Describes bytes (description_of p)
-IsDescribed name bytes (Err refusal) =
-    Wants refusal ⊎ (IsFaulty false name bytes (refused refusal) ⊎ IsNoDescription name bytes (refused refusal))
+-- it is the graph of the tree that the bytes are accepted as, or they have a fault, or memory was wanted
+abbrev pub IsGraphOf : List ℕ → List ℕ → Result Graph Refusal → Type 0
+IsGraphOf name bytes (Ok g) = IsAccepted bytes g.desc × IsGraph g
+IsGraphOf name bytes (Err refusal) = Wants refusal ⊎ IsFaulty name bytes (refused refusal)
 
 -- ---- `check`
 
@@ -154,37 +155,29 @@ summed (Err refusal) = telling (refused refusal)
 abbrev pub file_named : List ℕ → Vec ℕ → Written
 file_named name bytes = record { name = name; bytes = bytes.items }
 
--- these are the words, their width, and the file of their image
-pub record IsMade (bytes : List ℕ) (d : Description) (words : List ℕ) (all : Assembled) : Type 0 where
-  pub words_are : all.image.words.items ≡ words
-  pub width_is : all.image.width ≡ word_width d.rules
-  pub file_is : (name : List ℕ) → file_named name all.file ≡ written_image name bytes d words
+-- the text has a fault, which is told
+pub record IsFaultyText (g : Graph) (name text : List ℕ) (told : Reply) : Type 0 where
+  pub fault : AsmFault
+  pub some : fault ≡ source_faults.Memory → ⊥
+  pub faulty : source.IsRefused (table g.desc) g.word_bits text fault
+  pub is : told ≡ text_fault name fault
 
--- the text doesn't fit
-pub record IsOtherText (d : Description) (name text : List ℕ) (told : Reply) : Type 0 where
-  pub other : IsFalse (is_fit d text)
-  pub is : told ≡ not_built_file name
+-- this is the image of the text, or the text has a fault, or memory was wanted
+abbrev pub IsMadeOfText : List ℕ → Graph → List ℕ → List ℕ → Result Image Refusal → Type 0
+IsMadeOfText bytes g name text (Ok i) = IsImageOfText g (sha256 bytes) text (picture_of i)
+IsMadeOfText bytes g name text (Err refusal) = Wants refusal ⊎ IsFaultyText g name text (refused refusal)
 
--- a line of the text has no match
-pub record IsBadLine (d : Description) (name text : List ℕ) (told : Reply) : Type 0 where
-  pub fit : IsTrue (is_fit d text)
-  pub line : ℕ
-  pub fails : FailsAt d (lines text) line
-  pub is : told ≡ no_match name line
+-- with its file, or memory was wanted
+abbrev pub HasBytes : Image → Result Assembled Refusal → Type 0
+HasBytes i (Ok all) = (picture_of all.image ≡ picture_of i) × (all.file.items ≡ file (picture_of i))
+HasBytes i (Err refusal) = Wants refusal
 
--- the text fits, and this was made of its words
-pub record IsWhole (bytes : List ℕ) (d : Description) (text : List ℕ) (all : Assembled) : Type 0 where
-  pub fit : IsTrue (is_fit d text)
-  pub words : List ℕ
-  pub assembles : Assembles d (lines text) words
-  pub made_of : IsMade bytes d words all
+-- the text of this name was assembled to this image and its file, or it has a fault, or memory was wanted
+abbrev pub IsAssembledText : List ℕ → Graph → List ℕ → List ℕ → Result Assembled Refusal → Type 0
+IsAssembledText bytes g name text (Ok all) = IsImageOfText g (sha256 bytes) text (picture_of all.image) × (all.file.items ≡ file (picture_of all.image))
+IsAssembledText bytes g name text (Err refusal) = Wants refusal ⊎ IsFaultyText g name text (refused refusal)
 
--- the text of this name was assembled, or it isn't built, or a line fails, or memory was wanted
-abbrev pub IsAssembledText : List ℕ → Description → List ℕ → List ℕ → Result Assembled Refusal → Type 0
-IsAssembledText bytes d name text (Ok all) = IsWhole bytes d text all
-IsAssembledText bytes d name text (Err refusal) = Wants refusal ⊎ (IsOtherText d name text (refused refusal) ⊎ IsBadLine d name text (refused refusal))
-
--- what comes of the words or a refusal
+-- what comes of the image or a refusal
 abbrev pub settled : List ℕ → Result Assembled Refusal → Work
 settled image (Ok all) = record { file = Some (file_named image all.file); reply = assembled all.image.width all.image.words.items }
 settled image (Err refusal) = telling (refused refusal)
@@ -197,32 +190,68 @@ IsStored before now file (Err refusal) =
     × (((refused refusal ≡ write_failed file.name) × SameElsewhere file.name before.held now.held × Rose before.counts.write_faults now.counts.write_faults)
     ⊎ (Wants refusal × (now.held ≡ before.held)))
 
+-- ---- images
+
+-- by this the images of the graph's description are measured, or memory was wanted
+abbrev pub IsLayoutOf : Graph → Result Layout Refusal → Type 0
+IsLayoutOf g (Ok l) = measures_of l ≡ measures (table g.desc) g.word_bits
+IsLayoutOf g (Err refusal) = Wants refusal
+
+-- the bits have a fault, which is told
+pub record IsFaultyImage (bytes : List ℕ) (g : Graph) (name bits : List ℕ) (told : Reply) : Type 0 where
+  pub fault : ImageFault
+  pub some : fault ≡ image_faults.Memory → ⊥
+  pub faulty : image.IsRefused (measures (table g.desc) g.word_bits) (sha256 bytes) bits fault
+  pub is : told ≡ image_fault name fault
+
+-- the bits are the image, or they have a fault, or memory was wanted
+abbrev pub IsFound : List ℕ → Graph → List ℕ → List ℕ → Result Image Refusal → Type 0
+IsFound bytes g name bits (Ok i) = IsImageOf (measures (table g.desc) g.word_bits) (sha256 bytes) bits (picture_of i)
+IsFound bytes g name bits (Err refusal) = Wants refusal ⊎ IsFaultyImage bytes g name bits (refused refusal)
+
+-- ---- `dis`
+
+-- the canonical text of the image, or memory was wanted
+abbrev pub IsShown : Graph → Picture → Result (List ℕ) Refusal → Type 0
+IsShown g i (Ok text) = IsCanonical (table g.desc) g.word_bits i.words (initials i) text
+IsShown g i (Err refusal) = Wants refusal
+
+-- what is told of a canonical text or a refusal
+abbrev pub shown : Result (List ℕ) Refusal → Work
+shown (Ok text) = telling (disassembled text)
+shown (Err refusal) = telling (refused refusal)
+
+-- ---- inputs
+
+-- the first line that writes no number that is wanted is told
+pub record IsBadNumber (name : List ℕ) (port : Option Ty) (text : List ℕ) (told : Reply) : Type 0 where
+  pub line : ℕ
+  pub bad : numbers port text ≡ Err line
+  pub is : told ≡ bad_input name line
+
+-- these are the numbers of the input, or a line of it is bad, or memory was wanted
+abbrev pub IsNumbered : List ℕ → Option Ty → List ℕ → Result (Vec ℤ) Refusal → Type 0
+IsNumbered name port text (Ok found) = numbers port text ≡ Ok found.items
+IsNumbered name port text (Err refusal) = Wants refusal ⊎ IsBadNumber name port text (refused refusal)
+
 -- ---- `run`
 
--- the bits are the image, or the file of this name isn't built, or memory was wanted
-abbrev pub IsFound : List ℕ → Description → List ℕ → List ℕ → Result Image Refusal → Type 0
-IsFound bytes d name bits (Ok i) = IsImageOf bytes d bits (picture_of i)
-IsFound bytes d name bits (Err refusal) =
-    Wants refusal ⊎ ((refused refusal ≡ not_built_file name) × ((i : Picture) → IsImageOf bytes d bits i → ⊥))
-
--- no line of the input stands in the way, or the first that does is told
-abbrev pub IsBlankInput : List ℕ → List ℕ → Result (Unit {0}) Refusal → Type 0
-IsBlankInput name text (Ok done) = first_input 1 (lines text) ≡ None
-IsBlankInput name text (Err refusal) = (line : ℕ) × (first_input 1 (lines text) ≡ Some line) × (refused refusal ≡ bad_input name line)
-
--- a run of these words, for at most so many steps, is told
-abbrev pub TellsRunOf : ℕ → Description → List ℕ → List Asked → Work → Type 0
-TellsRunOf steps d words asked work = (r : machine.RunOutcome) × Runs d words steps (beginning d) r × EndsWith (told_run r) asked work
+-- a run of the image on these numbers, for at most so many steps, is told
+abbrev pub TellsRunOf : ℕ → Table → Picture → List ℤ → List Asked → Work → Type 0
+TellsRunOf steps t i found asked work = (r : RunOutcome) × RunsImage t i.words (initials i) found steps r × EndsWith (told_run r) asked work
 
 -- all three files were read, and a run may begin
-pub record IsReady (before now : Store) (description image input : List ℕ) (p : Plain) (i : Image) : Type 0 where
+pub record IsReady (before now : Store) (description image input : List ℕ) (g : Graph) (i : Picture) (found : List ℤ) : Type 0 where
   pub bytes : List ℕ
-  pub described : Describes bytes (description_of p)
-  pub arrives : (steps : ℕ)
-      → Arrives before now (description ∷ image ∷ input ∷ []) [] (RunComesTo description image input steps) (TellsRunOf steps (description_of p) i.words.items)
+  pub bits : List ℕ
+  pub entry : List ℕ
+  pub is : IsImageOf (measures (table g.desc) g.word_bits) (sha256 bytes) bits i
+  pub numbers_are : numbers (input_type (table g.desc)) entry ≡ Ok found
+  pub whole : IsGraph g
+  pub arrives : (steps : ℕ) → Arrives before now (description ∷ image ∷ input ∷ []) [] (RunComesTo description image input steps) (TellsRunOf steps (table g.desc) i found)
 
 abbrev pub RunSettles : Store → Store → List ℕ → List ℕ → List ℕ → Result Ready Refusal → Type 0
-RunSettles before now description image input (Ok r) = IsReady before now description image input r.plain r.image
+RunSettles before now description image input (Ok r) = IsReady before now description image input r.graph (picture_of r.image) r.numbers.items
 RunSettles before now description image input (Err refusal) =
     (steps : ℕ) → Settles before now (description ∷ image ∷ input ∷ []) (RunComesTo description image input steps) (telling (refused refusal))
 
@@ -266,17 +295,6 @@ IsProgramChecked name n tree (Err refusal) = Wants refusal ⊎ IsRefusedProgram 
 abbrev pub IsCompiled : List ℕ → List ℕ → ℕ → Result (CTree × ℕ) Refusal → Type 0
 IsCompiled name bytes n (Ok p) = (p.1 ≡ n) × IsProgram bytes n p.0
 IsCompiled name bytes n (Err refusal) = Wants refusal ⊎ IsFaultyProgram name bytes n (refused refusal)
-
--- the first line that writes no number that is wanted is told
-pub record IsBadNumber (name : List ℕ) (n : ℕ) (text : List ℕ) (told : Reply) : Type 0 where
-  pub line : ℕ
-  pub bad : numbers (Some (ty.Int n)) text ≡ Err line
-  pub is : told ≡ bad_input name line
-
--- these are the numbers of the input, or a line of it is bad, or memory was wanted
-abbrev pub IsNumbered : List ℕ → ℕ → List ℕ → Result (Vec ℤ) Refusal → Type 0
-IsNumbered name n text (Ok found) = numbers (Some (ty.Int n)) text ≡ Ok found.items
-IsNumbered name n text (Err refusal) = Wants refusal ⊎ IsBadNumber name n text (refused refusal)
 
 -- the run of what was prepared, for at most so many turns, or a refusal is told
 abbrev pub evaluated : ℕ → Result Prepared Refusal → Work

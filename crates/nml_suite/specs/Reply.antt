@@ -1,12 +1,16 @@
 -- What is told: a status and a text.
-use Rattle.std.specs.Prelude.{ℕ, zero, suc, List, [], ◌∷◌, ◌++◌, length, ℤ, codes}
+use Rattle.std.specs.Prelude.{ℕ, zero, suc, List, [], ◌∷◌, ◌++◌, length, ℤ, pos, negsuc, codes}
 use Rattle.std.specs.Fmt.{decimal, signed_decimal}
 use Rattle.nk_base.specs.Hexadecimal.{hexadecimal, digits_of_word}
-use Rattle.plain_tools.specs.Machine.{Stop, Running, Halted, NoWord, BadWord}
-use Rattle.plain_tools.specs.Machine as machine
+use Rattle.nml_tree.specs.Machine.{Stop, Running, Halted, Wanted, NoWord, BadWord}
+use Rattle.nml_tree.specs.Machine as machine
 use Rattle.nml_tree.specs.declared.fault.DescFault.{DescFault}
 use Rattle.fault_texts.specs.FaultText.{fault_text}
+use Rattle.fault_texts.specs.AsmFaultText.{asm_fault_text}
+use Rattle.fault_texts.specs.ImageFaultText.{image_fault_text}
 use Rattle.fault_texts.specs.CFaultText.{c_fault_text}
+use Rattle.asm_text.specs.declared.fault.AsmFault.{AsmFault}
+use Rattle.image_file.specs.declared.fault.ImageFault.{ImageFault}
 use Rattle.c_tree.specs.declared.fault.CFault.{CFault}
 use Rattle.nml_target.specs.declared.width.Lacking.{Lacking}
 use Rattle.nml_target.specs.declared.width.Lacking.TheVariants as lacking
@@ -40,9 +44,13 @@ not_built = reply statuses.NotBuilt (codes "not built\n")
 abbrev pub description_fault : List ℕ → DescFault → Reply
 description_fault name fault = reply statuses.Description (name ++ codes ": " ++ fault_text fault ++ codes "\n")
 
--- a file that isn't of the form that is built
-abbrev pub not_built_file : List ℕ → Reply
-not_built_file name = reply statuses.NotBuilt (name ++ codes ": not built\n")
+-- an assembly text that has this fault
+abbrev pub text_fault : List ℕ → AsmFault → Reply
+text_fault name fault = reply statuses.Source (name ++ codes ": " ++ asm_fault_text fault ++ codes "\n")
+
+-- an image file that has this fault
+abbrev pub image_fault : List ℕ → ImageFault → Reply
+image_fault name fault = reply statuses.Image (name ++ codes ": " ++ image_fault_text fault ++ codes "\n")
 
 -- a file that gave no bytes
 abbrev pub unread : List ℕ → Reading → Reply
@@ -70,10 +78,6 @@ lacking_text lacking.Out = codes ": K4 NoTarget OUT\n"
 abbrev pub no_target : List ℕ → Lacking → Reply
 no_target name what = reply statuses.NotClosed (name ++ lacking_text what)
 
--- no instruction has the tokens of this line
-abbrev pub no_match : List ℕ → ℕ → Reply
-no_match name line = reply statuses.Source (name ++ codes ": S3 NoMatch " ++ decimal line ++ codes "\n")
-
 -- this line of an input isn't blank, and writes no number that is wanted
 abbrev pub bad_input : List ℕ → ℕ → Reply
 bad_input name line = reply statuses.Input (name ++ codes ": Input " ++ decimal line ++ codes "\n")
@@ -93,6 +97,10 @@ ok_line count = codes "ok: " ++ decimal count ++ codes " words\n"
 abbrev pub assembled : ℕ → List ℕ → Reply
 assembled width words = reply statuses.Done (word_lines width words ++ ok_line (length words))
 
+-- the canonical text of an image
+abbrev pub disassembled : List ℕ → Reply
+disassembled text = reply statuses.Done text
+
 -- a description that is accepted, with so many shapes and so many bits in a word
 abbrev pub accepted : (count width : ℕ) → Reply
 accepted count width = reply statuses.Done (codes "description ok: " ++ decimal count ++ codes " shapes, " ++ decimal width ++ codes " bits\n")
@@ -108,14 +116,17 @@ output_lines (z ∷ zs) = output_line z ++ output_lines zs
 -- how a run stopped, on a line
 abbrev pub stop_line : Stop → List ℕ
 stop_line Running = codes "running\n"
-stop_line (Halted code) = codes "halted " ++ decimal code ++ codes "\n"
+stop_line (Halted code) = codes "halted " ++ signed_decimal code ++ codes "\n"
+stop_line Wanted = codes "wants input\n"
 stop_line (NoWord place) = codes "no word " ++ decimal place ++ codes "\n"
 stop_line (BadWord place) = codes "bad word " ++ decimal place ++ codes "\n"
 
 abbrev pub stop_status : Stop → Status
 stop_status Running = statuses.Budget
-stop_status (Halted zero) = statuses.Done
-stop_status (Halted (suc code)) = statuses.Stopped
+stop_status (Halted (pos zero)) = statuses.Done
+stop_status (Halted (pos (suc code))) = statuses.Stopped
+stop_status (Halted (negsuc code)) = statuses.Stopped
+stop_status Wanted = statuses.Wants
 stop_status (NoWord place) = statuses.NoWord
 stop_status (BadWord place) = statuses.BadWord
 

@@ -1,23 +1,18 @@
 -- Worked examples of the definitions, each by computation.
-use Rattle.std.proofs.Common.{lit≤, arith, inl, inr}
-use Rattle.std.proofs.lemmas.Int.{ints}
-use Rattle.std.specs.Prelude.{◌≡◌, ◌≢◌, ◌<◌, ◌^◌, ℕ, List, [], ◌∷◌, Some, None, true, false, codes, refl, pos, negsuc}
+use Rattle.std.proofs.Common.{lit≤}
+use Rattle.std.specs.Prelude.{◌≡◌, ◌<◌, ◌^◌, ℕ, List, [], ◌∷◌, Some, None, codes, refl, pos, negsuc}
 use Rattle.std.specs.Fmt.{digits}
-use Rattle.plain_tree.specs.PlainTree.{IsPlainTree}
-use Rattle.plain_tree.specs.SampleMachine as sample
 use Rattle.nk_base.specs.declared.number.Bits.{Bits}
-use Rattle.nml_tree.specs.declared.tree.Desc.{Desc}
+use Rattle.nml_tree.specs.Machine.{Ends, Nothing, NoWord}
+use Rattle.nml_tree.specs.SampleMachines.{m1}
 use Rattle.nml_tree.specs.declared.fault.DescFault.TheVariants as faults
 use Rattle.nml_tree.specs.declared.fault.Root.TheVariants as roots
-use Rattle.image_file.specs.File.{file}
-use Rattle.plain_tools.specs.PlainText.{lines}
-use Rattle.plain_tools.specs.SampleRun as runs
-use Rattle.plain_tools.specs.Assembly.{Assembles}
-use Rattle.nml_suite.specs.Coming.{Opened, Accepted, Plain, Words, RunsTo, Input, Ran, AsmComesTo, first_input, written_image, picture}
-use Rattle.nml_suite.specs.Described.{IsAccepted, has_pc}
-use Rattle.nml_suite.specs.Reading.{Got}
+use Rattle.asm_text.specs.declared.fault.AsmFault.TheVariants as source_faults
+use Rattle.image_file.specs.File.{Picture, file}
+use Rattle.image_file.specs.declared.fault.ImageFault.TheVariants as image_faults
+use Rattle.nml_suite.specs.Coming.{RunsTo, Input, Ran, made, picture}
 use Rattle.nml_command.specs.Form.{Asm, Run, Demo, form_of, files_to_read, file_to_write}
-use Rattle.nml_suite.specs.Reply.{description_fault, reply, output_lines, word_lines}
+use Rattle.nml_suite.specs.Reply.{description_fault, text_fault, image_fault, reply, output_lines, stop_line, word_lines}
 use Rattle.nml_suite.specs.Work.{telling}
 use Rattle.nml_suite.specs.declared.status.Status.TheVariants as statuses
 
@@ -88,102 +83,30 @@ shapes_line = refl
 root_line : (description_fault (codes "m") (faults.Root roots.Instruction)).text ≡ codes "m: N11 Root instruction\n"
 root_line = refl
 
--- rules alone aren't built
-no_rules : has_pc sample.machine ≡ false
-no_rules = refl
+-- faults of a text and of an image
+no_match_line : (text_fault (codes "s") (source_faults.NoMatch 1)).text ≡ codes "s: S3 NoMatch 1\n"
+unfolding digits
+no_match_line = refl
 
-with_pc : has_pc sample.running_machine ≡ true
-with_pc = refl
+short_line : (image_fault (codes "i") (image_faults.Short 51)).text ≡ codes "i: I3 Short 51\n"
+unfolding digits
+short_line = refl
 
-an_image : written_image (codes "i") (codes "d") sample.running_machine runs.words ≡ record { name = codes "i"; bytes = file (picture (codes "d") sample.running_machine runs.words) }
+-- what is made of a text: the file of the image, and its words
+an_image : made (codes "i") (picture (codes "d") 10 (0x105 ∷ []) []) ≡ record { file = Some (record { name = codes "i"; bytes = file (picture (codes "d") 10 (0x105 ∷ []) []) }); reply = reply statuses.Done (codes "105\nok: 1 words\n") }
+unfolding digits
 an_image = refl
 
--- blank lines count, and the first that isn't blank is told
-third_line : first_input 1 (lines (codes " \t\n\n 7\n8")) ≡ Some 3
-third_line = refl
+-- an image without words, of the machine, which has no input
+abbrev empty : Picture
+empty = record { digest = []; width = 10; words = []; inits = [] }
 
-all_blank : first_input 1 (lines (codes " \t\n\n")) ≡ None
-all_blank = refl
-
--- `ldi 5`, `outa`, `hlt 2` in at most three steps
-program : RunsTo (codes "x") 3 sample.running_machine runs.words [] [] (telling (reply statuses.Stopped (codes "5\nhalted 2\n")))
+-- there is no word at 0
+no_word : RunsTo (codes "x") 1 m1 empty [] [] (telling (reply statuses.NoWord (codes "no word 0\n")))
 unfolding digits
-program = Ran refl (runs.outcome (pos 5 ∷ [])) runs.prints (record { last = refl; is = refl })
+no_word = Ran [] refl (record { out = []; stop = NoWord 0 }) (Ends [] (NoWord 0), (Nothing, refl, refl), refl) (record { last = refl; is = refl })
 
-refused_input : RunsTo (codes "x") 3 sample.running_machine runs.words (codes "\n7") [] (telling (reply statuses.Input (codes "x: Input 2\n")))
+-- blank lines count, and no number is wanted
+refused_input : RunsTo (codes "x") 1 m1 empty (codes "\n7") [] (telling (reply statuses.Input (codes "x: Input 2\n")))
 unfolding digits
 refused_input = Input 2 refl (record { last = refl; is = refl })
-
--- ---- `asm` of a whole text
-
-abbrev text : List ℕ
-text = codes "ldi 5\nouta\nhlt 0\n"
-
-abbrev row_words : List ℕ
-row_words = 0x105 ∷ 0x200 ∷ 0 ∷ []
-
-some_tokens : {A : Type 0} {x : A} {xs : List A} → x ∷ xs ≢ []
-some_tokens e = absurd (cc e)
-
--- each line of the text gives its word, and what stands behind the last line feed gives none
-row_assembles : Assembles sample.running_machine (lines text) row_words
-unfolding digits
-row_assembles = (
-  0x105 ∷ [],
-  0x200 ∷ 0 ∷ [],
-  refl,
-  inr (
-    0x105,
-    some_tokens,
-    record {
-      by = record { rule = record sample.ldi { action = sample.ldi_action }; numbers = pos 5 ∷ []; among = (0, omega arith, refl); fill = ((omega (arith, ints), omega (arith, ints)), tt) };
-      syntax = refl;
-      image = refl;
-    },
-    refl,
-  ),
-  (
-    0x200 ∷ [],
-    0 ∷ [],
-    refl,
-    inr (
-      0x200,
-      some_tokens,
-      record {
-        by = record { rule = record sample.outa { action = sample.outa_action }; numbers = []; among = (1, omega arith, refl); fill = tt };
-        syntax = refl;
-        image = refl;
-      },
-      refl,
-    ),
-    (
-      0 ∷ [],
-      [],
-      refl,
-      inr (
-        0,
-        some_tokens,
-        record {
-          by = record { rule = record sample.hlt { action = sample.hlt_action }; numbers = pos 0 ∷ []; among = (2, omega arith, refl); fill = ((omega (arith, ints), omega (arith, ints)), tt) };
-          syntax = refl;
-          image = refl;
-        },
-        refl,
-      ),
-      ([], [], refl, inl (refl, refl), refl),
-    ),
-  ),
-)
-
--- where these bytes are the machine, its text comes to the image of three words, and to four lines
-first_row : (bytes : List ℕ) (tree : Desc) → IsAccepted false bytes tree → IsPlainTree tree sample.running_machine
-    → AsmComesTo (codes "m1") (codes "s") (codes "i") ((codes "m1", Got bytes) ∷ (codes "s", Got text) ∷ [])
-    (record {
-      file = Some (record { name = codes "i"; bytes = file (picture bytes sample.running_machine row_words) });
-      reply = reply statuses.Done (codes "105\n200\n000\nok: 3 words\n");
-    })
-unfolding digits
-first_row bytes tree accepted plain =
-    Opened bytes _ refl
-    (Accepted tree accepted
-    (Plain sample.running_machine (record { plain = plain; built = refl }) (Opened text _ refl (Words refl row_words row_assembles refl refl))))

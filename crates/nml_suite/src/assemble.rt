@@ -1,24 +1,27 @@
-ghost use Rattle.std.specs.Prelude.{◌≡◌, ◌≤◌, ◌<◌, ◌^◌, ◌∷◌, [], ℕ, List, length, IfOk, IsTrue};
-ghost use Rattle.std.specs.List.{AllByRecursion};
+ghost use Rattle.std.specs.Prelude.{◌≡◌, ◌≤◌, ◌∷◌, [], ℕ, List, length, if◌then◌else◌};
+ghost use Rattle.fault_texts.specs.AsmFaultText as text_of;
+ghost use Rattle.image_file.specs.File.{HasFile};
+ghost use Rattle.image_file.specs.Seen.{picture_of};
+ghost use Rattle.isg_graph.specs.Graph.{IsGraph};
+ghost use Rattle.nk_outside.specs.Held.{file_limit};
 ghost use Rattle.nml_suite.specs.Coming.{AsmComesTo};
-ghost use Rattle.nml_suite.specs.Described.{has_pc};
 ghost use Rattle.nml_suite.specs.Reading.{store};
-ghost use Rattle.nml_suite.specs.Refusing.{IsAssembledText, IsMade, IsStored, Settles, file_named, settled};
-ghost use Rattle.plain_tree.specs.Description.{description_of};
-ghost use Rattle.plain_tree.specs.IsPlain.{IsPlain, word_width};
+ghost use Rattle.nml_suite.specs.Refusing.{HasBytes, IsAssembledText, IsMadeOfText, IsStored, Settles, file_named, refused, settled};
+ghost use Rattle.nml_suite.specs.Reply.{starved, text_fault};
 
-use crate::describe::describe;
+use crate::describe::graph_of;
 use crate::load::load;
 use crate::refusal::Refusal;
+use asm_text::AsmFault;
+use fault_texts::is_asm_memory;
 use image_file::{Image, write};
+use isg_graph::Isg;
 use nk_base::{Memory, Text};
 use nk_outside::{Files, WriteFault};
-use plain_tools::{PlainFault, plain_words};
-use plain_tree::{Plain, word_bits};
 use sha2::{Digest, Sha256};
 use std::alloc::Global;
 
-/// The image of a text's words, and its file.
+/// The image of a text, and its file.
 #[derive(Drop)]
 pub struct Assembled {
     pub image: Image,
@@ -35,54 +38,64 @@ pub fn assemble<'a, F: Files>(
     ensures { (image : List ℕ) → Settles (store (F.held files.old) (F.counts files.old)) (store (F.held files.new) (F.counts files.new)) (description.now ∷ source.now ∷ []) (AsmComesTo description.now source.now image) (settled image result) }
 {
     let bytes = load(alloc, files, description)?;
-    let plain = describe(alloc, description, &bytes)?;
+    let graph = graph_of(alloc, description, &bytes)?;
     let text = load(alloc, files, source)?;
-    words_of(alloc, source, &plain, &bytes, &text)
+    image_and_file(alloc, source, &graph, &bytes, &text)
 }
 
-/// What is made of the words of the named file's text.
-fn words_of<'a>(
+/// The image of the named file's text, and its file.
+fn image_and_file<'a>(
     alloc: Global,
     name: &'a Text,
-    plain: &Plain,
+    graph: &Isg,
     bytes: &[u8],
     text: &[u8],
 ) -> Result<Assembled, Refusal<'a>>
-    requires plain { IsPlain (description_of plain.now) }
-    requires pc { IsTrue (has_pc (description_of plain.now)) }
-    ensures { IsAssembledText bytes.now (description_of plain.now) name.now text.now result }
+    requires { length text.now ≤ file_limit }
+    ensures { IsAssembledText bytes.now graph.now name.now text.now result }
 {
-    match plain_words(alloc, plain, text) {
-        Ok(words) => match made_of(alloc, plain, bytes, words) {
-            Ok(made) => Ok(made),
-            Err(Memory) => Err(Refusal::Memory),
-        },
-        Err(PlainFault::NotBuilt) => Err(Refusal::NotBuilt(name)),
-        Err(PlainFault::NoMatch { line }) => Err(Refusal::NoMatch(name, line)),
-        Err(PlainFault::Memory) => Err(Refusal::Memory),
+    graph.is_whole();
+    let image = image_of(alloc, name, graph, bytes, text)?;
+    with_file(alloc, image)
+}
+
+/// The image of the named file's text.
+fn image_of<'a>(
+    alloc: Global,
+    name: &'a Text,
+    graph: &Isg,
+    bytes: &[u8],
+    text: &[u8],
+) -> Result<Image, Refusal<'a>>
+    requires { length text.now ≤ file_limit }
+    ensures { IsMadeOfText bytes.now graph.now name.now text.now result }
+{
+    match asm_tool::assemble(alloc, graph, &Sha256::digest(bytes), text) {
+        Ok(image) => Ok(image),
+        Err(fault) => Err(refusal_of(name, fault)),
     }
 }
 
-/// The image of the words, and its file.
-fn made_of(
-    alloc: Global,
-    plain: &Plain,
-    bytes: &[u8],
-    words: Vec<u128>,
-) -> Result<Assembled, Memory>
-    requires plain { IsPlain (description_of plain.now) }
-    requires fit { AllByRecursion (λ w. w < 2 ^ word_width (description_of plain.now).rules) words.items }
-    requires count { length words.items ≤ 65536 }
-    ensures { IfOk result (λ made. IsMade bytes.now (description_of plain.now) words.items made) }
+/// The refusal of the named text for a fault.
+fn refusal_of<'a>(name: &'a Text, fault: AsmFault) -> Refusal<'a>
+    ensures { refused result ≡ (if text_of.is_asm_memory fault then starved else text_fault name.now fault) }
 {
-    let image = Image {
-        digest: Sha256::digest(bytes),
-        width: word_bits(plain) as u8,
-        words,
-        inits: Vec::new(alloc),
-    };
-    let file = write(alloc, &image)?;
-    Ok(Assembled { image, file })
+    if is_asm_memory(&fault) {
+        Refusal::Memory
+    } else {
+        Refusal::Source(name, fault)
+    }
+}
+
+/// The image with its file.
+fn with_file<'a>(alloc: Global, image: Image) -> Result<Assembled, Refusal<'a>>
+    requires { HasFile (picture_of image) }
+    ensures { HasBytes image result }
+{
+    match write(alloc, &image) {
+        Ok(file) => Ok(Assembled { image, file }),
+        Err(Memory) => Err(Refusal::Memory),
+    }
 }
 
 /// Writes the image's file under the name.

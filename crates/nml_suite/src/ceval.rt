@@ -3,17 +3,17 @@ ghost use Rattle.fault_texts.specs.CFaultText as text;
 ghost use Rattle.nk_outside.specs.Held.{file_limit};
 ghost use Rattle.nml_suite.specs.Coming.{CevalComesTo};
 ghost use Rattle.nml_suite.specs.Reading.{store};
-ghost use Rattle.nml_suite.specs.Refusing.{IsCompiled, IsNumbered, IsProgramChecked, IsProgramSpelled, IsTargeted, Settles, evaluated, refused};
+ghost use Rattle.nml_suite.specs.Refusing.{IsCompiled, IsProgramChecked, IsProgramSpelled, IsTargeted, Settles, evaluated, refused};
 ghost use Rattle.nml_suite.specs.Reply.{program_fault, starved};
 
 use crate::describe::{accepted, tree_of};
+use crate::input::numbered;
 use crate::load::load;
 use crate::refusal::Refusal;
 use c_check::check;
 use c_read::read;
 use c_tree::{CFault, CProg, CTree};
 use fault_texts::is_c_memory;
-use input_lines::{InputFault, numbers_of};
 use nk_base::{Memory, Text, Ty};
 use nk_outside::Files;
 use nml_known::Names;
@@ -44,7 +44,7 @@ pub fn prepare_program<'a, F: Files>(
     let text = load(alloc, files, source)?;
     let program = compiled(alloc, source, &text, width)?;
     let entry = load(alloc, files, input)?;
-    let numbers = numbered(alloc, input, &entry, width)?;
+    let numbers = numbered(alloc, input, &entry, Some(Ty::Int(width)))?;
     Ok(Prepared { program, numbers })
 }
 
@@ -114,24 +114,5 @@ fn refusal_of<'a>(name: &'a Text, fault: CFault) -> Refusal<'a>
         Refusal::Memory
     } else {
         Refusal::Program(name, fault)
-    }
-}
-
-/// The numbers of so many bits that the lines of the named file's text write.
-fn numbered<'a>(
-    alloc: Global,
-    name: &'a Text,
-    text: &[u8],
-    width: u32,
-) -> Result<Vec<i64>, Refusal<'a>>
-    requires limit { length text.now ≤ file_limit }
-    requires low { 16 ≤ width }
-    requires high { width ≤ 32 }
-    ensures { IsNumbered name.now width text.now result }
-{
-    match numbers_of(alloc, text, Some(Ty::Int(width))) {
-        Ok(numbers) => Ok(numbers),
-        Err(InputFault::Line(line)) => Err(Refusal::Input(name, line)),
-        Err(InputFault::Memory) => Err(Refusal::Memory),
     }
 }

@@ -5,7 +5,10 @@ mod arguments;
 mod assemble;
 mod ceval;
 mod describe;
+mod dis;
 mod evaluate;
+mod image;
+mod input;
 mod law;
 mod load;
 mod ready;
@@ -18,6 +21,6 @@ mod tell;
 mod top;
 
 pub use arguments::{tell_memory, words_of};
-pub use law::{asm_then_run, one_work, some_work};
+pub use law::{asm_then_dis, asm_then_run, one_work, some_work};
 pub use status::Status;
 pub use top::suite;

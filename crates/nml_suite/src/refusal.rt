@@ -1,11 +1,13 @@
 ghost use Rattle.std.specs.Prelude.{◌≡◌, ◌++◌, IfOk, codes};
 ghost use Rattle.std.specs.Fmt.{decimal};
 ghost use Rattle.nml_suite.specs.Refusing.{refused};
-ghost use Rattle.nml_suite.specs.Reply.{description_fault, no_target, program_fault};
+ghost use Rattle.nml_suite.specs.Reply.{description_fault, image_fault, no_target, program_fault, text_fault};
 
 use crate::Status;
+use asm_text::AsmFault;
 use c_tree::CFault;
-use fault_texts::{push_c_fault, push_fault};
+use fault_texts::{push_asm_fault, push_c_fault, push_fault, push_image_fault};
+use image_file::ImageFault;
 use nk_base::{Memory, Text, dec};
 use nml_target::Lacking;
 use nml_tree::DescFault;
@@ -22,9 +24,10 @@ pub enum Refusal<'a> {
     Unwritten(&'a Text),
     /// The file is no description, and why.
     Description(&'a Text, DescFault),
-    NotBuilt(&'a Text),
-    /// No instruction has the tokens of the line.
-    NoMatch(&'a Text, u64),
+    /// The file is no assembly text for the description, and why.
+    Source(&'a Text, AsmFault),
+    /// The file is no image of the description, and why.
+    Image(&'a Text, ImageFault),
     /// The line of an input isn't blank, and writes no number that is wanted.
     Input(&'a Text, u64),
     /// The file is no program, and why.
@@ -44,8 +47,8 @@ impl Refusal<'_> {
             Refusal::TooLong(_) => Status::TooLong,
             Refusal::Unwritten(_) => Status::Write,
             Refusal::Description(_, _) => Status::Description,
-            Refusal::NotBuilt(_) => Status::NotBuilt,
-            Refusal::NoMatch(_, _) => Status::Source,
+            Refusal::Source(_, _) => Status::Source,
+            Refusal::Image(_, _) => Status::Image,
             Refusal::Input(_, _) => Status::Input,
             Refusal::Program(_, _) => Status::Source,
             Refusal::NoTarget(_, _) => Status::NotClosed,
@@ -63,8 +66,8 @@ impl Refusal<'_> {
             Refusal::TooLong(name) => named(alloc, name, b": too long\n"),
             Refusal::Unwritten(name) => named(alloc, name, b": write failed\n"),
             Refusal::Description(name, fault) => faulty(alloc, name, fault),
-            Refusal::NotBuilt(name) => named(alloc, name, b": not built\n"),
-            Refusal::NoMatch(name, line) => numbered(alloc, name, b": S3 NoMatch ", *line),
+            Refusal::Source(name, fault) => faulty_text(alloc, name, fault),
+            Refusal::Image(name, fault) => faulty_image(alloc, name, fault),
             Refusal::Input(name, line) => numbered(alloc, name, b": Input ", *line),
             Refusal::Program(name, fault) => faulty_program(alloc, name, fault),
             Refusal::NoTarget(name, what) => lacking(alloc, name, *what),
@@ -87,6 +90,26 @@ fn faulty(alloc: Global, name: &Text, fault: &DescFault) -> Result<Text, Memory>
 {
     let mut line = named(alloc, name, b": ")?;
     push_fault(alloc, &mut line, fault)?;
+    line.push_bytes(b"\n")?;
+    Ok(line)
+}
+
+/// A name, and the fault of the assembly text that has it.
+fn faulty_text(alloc: Global, name: &Text, fault: &AsmFault) -> Result<Text, Memory>
+    ensures { IfOk result (λ t. t ≡ (text_fault name.now fault.now).text) }
+{
+    let mut line = named(alloc, name, b": ")?;
+    push_asm_fault(alloc, &mut line, fault)?;
+    line.push_bytes(b"\n")?;
+    Ok(line)
+}
+
+/// A name, and the fault of the image that has it.
+fn faulty_image(alloc: Global, name: &Text, fault: &ImageFault) -> Result<Text, Memory>
+    ensures { IfOk result (λ t. t ≡ (image_fault name.now fault.now).text) }
+{
+    let mut line = named(alloc, name, b": ")?;
+    push_image_fault(alloc, &mut line, fault)?;
     line.push_bytes(b"\n")?;
     Ok(line)
 }

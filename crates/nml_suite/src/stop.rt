@@ -11,6 +11,8 @@ pub enum Stop {
     Running,
     /// It halted with this code.
     Halted(u8),
+    /// It wanted a number that the input doesn't have.
+    Wants,
     /// There is no word at this place.
     NoWord(u32),
     /// The word at this place is no instruction.
@@ -26,6 +28,7 @@ impl Stop {
             Stop::Running => Status::Budget,
             Stop::Halted(0) => Status::Done,
             Stop::Halted(_) => Status::Stopped,
+            Stop::Wants => Status::Wants,
             Stop::NoWord(_) => Status::NoWord,
             Stop::BadWord(_) => Status::BadWord,
         }

@@ -1,4 +1,4 @@
-ghost use Rattle.std.specs.Prelude.{◌≡◌, ◌++◌, IfOk, OnOk, OnErr};
+ghost use Rattle.std.specs.Prelude.{◌≡◌, ◌≤◌, ◌<◌, ◌++◌, length, IfOk, OnOk, OnErr};
 ghost use Rattle.nk_outside.specs.Taken.{Took, TookFront};
 ghost use Rattle.nml_suite.specs.Ended.{CountsPuts, Ends};
 ghost use Rattle.nml_suite.specs.Refusing.{refused};
@@ -42,6 +42,14 @@ pub fn tell_assembled<S: Sink>(alloc: Global, sink: &mut S, made: &Assembled) ->
     ensures { Told (spec.assembled made.now.image.width made.now.image.words.items) (S.taken sink.old) (S.taken sink.new) (S.faults sink.old) (S.faults sink.new) result }
 {
     let done = put_assembled(alloc, sink, u32::from(made.image.width), &made.image.words);
+    ended(alloc, sink, done, Status::Done)
+}
+
+/// Puts a text, each line once.
+pub fn tell_text<S: Sink>(alloc: Global, sink: &mut S, text: &Text) -> Status
+    ensures { Told (spec.disassembled text.now) (S.taken sink.old) (S.taken sink.new) (S.faults sink.old) (S.faults sink.new) result }
+{
+    let done = put_lines(alloc, sink, text.as_bytes());
     ended(alloc, sink, done, Status::Done)
 }
 
@@ -144,6 +152,42 @@ fn put_words<S: Sink>(
         put(alloc, sink, line.as_bytes())?;
     }
     Ok(())
+}
+
+/// Puts each line of the text, once.
+fn put_lines<S: Sink>(alloc: Global, sink: &mut S, text: &[u8]) -> Result<(), WriteFault>
+    ensures ok { OnOk result (Took (S.taken sink.old) (S.taken sink.new) text.now) }
+    ensures err { OnErr result (TookFront (S.taken sink.old) (S.taken sink.new) text.now) }
+    ensures counts { CountsPuts (S.faults sink.old) (S.faults sink.new) result }
+{
+    let mut rest = text;
+    while !rest.is_empty() {
+        let (line, more) = rest.split_at(line_len(rest));
+        put(alloc, sink, line)?;
+        rest = more;
+    }
+    Ok(())
+}
+
+/// How many bytes the first line has, its line feed included.
+fn line_len(text: &[u8]) -> usize
+    requires { 0 < length text.now }
+    ensures some { 0 < result }
+    ensures within { result ≤ length text.now }
+{
+    let before = before_feed(text);
+    if before < text.len() {
+        before + 1
+    } else {
+        before
+    }
+}
+
+/// How many bytes stand before the first line feed.
+fn before_feed(text: &[u8]) -> usize
+    ensures { result ≤ length text.now }
+{
+    text.iter().take_while(|c| **c != b'\n').count()
 }
 
 /// A word in hexadecimal, a line.

@@ -1,6 +1,6 @@
 ghost use Rattle.std.specs.Prelude.{Some};
 ghost use Rattle.nml_suite.specs.Answer.{Answers, moment};
-ghost use Rattle.nml_command.specs.Form.{form_of, Asm, Ceval, Check, Run};
+ghost use Rattle.nml_command.specs.Form.{form_of, Asm, Ceval, Check, Dis, Run};
 ghost use Rattle.nml_suite.specs.Promises.{KeepsPromises};
 ghost use Rattle.nml_suite.specs.Reply.{not_built};
 ghost use Rattle.nml_suite.specs.Told.{Told};
@@ -8,11 +8,12 @@ ghost use Rattle.nml_suite.specs.Told.{Told};
 use crate::Status;
 use crate::assemble::{assemble, save};
 use crate::ceval::prepare_program;
+use crate::dis::disassembled;
 use crate::evaluate::tell_outcome;
 use crate::ready::prepare;
 use crate::run::tell_run;
 use crate::summary::sum_up_file;
-use crate::tell::{tell, tell_assembled, tell_refusal, tell_summary};
+use crate::tell::{tell, tell_assembled, tell_refusal, tell_summary, tell_text};
 use nk_base::Text;
 use nk_outside::{Files, Sink};
 use nml_command::{Command, command_of};
@@ -66,12 +67,13 @@ fn answer<F: Files, S: Sink>(
             },
         ) => answer_run(alloc, files, sink, description, image, input, steps),
         Some(Command::Check(description)) => answer_check(alloc, files, sink, description),
-        Some(
-            Command::Dis {
-                description: _,
-                image: _,
-            },
-        ) => tell_not_built(alloc, sink),
+        Some(Command::Dis { description, image }) => answer_dis(
+            alloc,
+            files,
+            sink,
+            description,
+            image,
+        ),
         Some(
             Command::Cc {
                 description: _,
@@ -131,6 +133,22 @@ fn answer_asm<F: Files, S: Sink>(
     };
     match save(alloc, files, image, &made) {
         Ok(()) => tell_assembled(alloc, sink, &made),
+        Err(refusal) => tell_refusal(alloc, sink, &refusal),
+    }
+}
+
+/// Puts the canonical text of an image.
+fn answer_dis<F: Files, S: Sink>(
+    alloc: Global,
+    files: &mut F,
+    sink: &mut S,
+    description: &Text,
+    image: &Text,
+) -> Status
+    ensures { Answers (moment (F.held files.old) (F.counts files.old) (S.taken sink.old) (S.faults sink.old)) (moment (F.held files.new) (F.counts files.new) (S.taken sink.new) (S.faults sink.new)) (Some (Dis description.now image.now)) result }
+{
+    match disassembled(alloc, files, description, image) {
+        Ok(text) => tell_text(alloc, sink, &text),
         Err(refusal) => tell_refusal(alloc, sink, &refusal),
     }
 }

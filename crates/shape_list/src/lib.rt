@@ -10,4 +10,5 @@ mod sketch;
 mod text;
 
 pub use picks::all_picks;
-pub use shape::all_shapes;
+pub use shape::{all_shapes, common_syntax};
+pub use text::Glyph;

@@ -53,6 +53,19 @@ fn shape_at(alloc: Global, names: &Names<'_>, root: &Text, picks: &[u32]) -> Res
     shape_of(alloc, &sketch, picks)
 }
 
+/// The syntax of the instructions with these picks: its characters, the fields of the instruction by their numbers, and a seam where a
+/// part's syntax begins and where it ends.
+///
+/// The one error is want of memory. The form is this project's own.
+pub fn common_syntax(alloc: Global, names: &Names<'_>, picks: &[u32]) -> Result<Vec<Glyph>, Memory>
+    requires free { IsFreeBelow 12 names.now }
+    ensures { IfOk result (λ v. (x : Derivation) → IsRoot (table names.now) x → picks.now ≡ derivation.picks x → map flat_of v.items ≡ flat 0 x) }
+{
+    let root = Text::from_bytes(alloc, b"instruction".as_slice())?;
+    let (sketch, _) = sketch_of(alloc, names, &root, picks, 0, names.items().len())?;
+    Ok(sketch.syntax)
+}
+
 /// The shape of an outline.
 fn shape_of(alloc: Global, sketch: &Sketch, picks: &[u32]) -> Result<Shape, Memory>
     requires few { length sketch.now.image.items ≤ 64 }

@@ -3,11 +3,8 @@ use Rattle.nml_suite.specs.Cause.{IsOther}
 use Rattle.nml_suite.proofs.Answering.{other_told, usage_told}
 use Rattle.nml_suite.proofs.top.answer.Goals as goal
 
-pub returns-in-Some-Dis : goal.returns-in-Some-Dis
-returns-in-Some-Dis g c = let e = rw (c.deref.ensures.value, c.in-Some-Dis.field-0-is) at c.in-Some-Dis.ensures in other_told _ _ _ _ _ _ _ (subst IsOther e tt) c.tell_not_built.ensures
-
 pub returns-in-Some-Cc : goal.returns-in-Some-Cc
-returns-in-Some-Cc g c = let e = rw (c.deref.ensures.value, c.in-Some-Cc.field-0-is) at c.in-Some-Cc.ensures in other_told _ _ _ _ _ _ _ (subst IsOther e tt) c.tell_not_built-in-Some-Cc.ensures
+returns-in-Some-Cc g c = let e = rw (c.deref.ensures.value, c.in-Some-Cc.field-0-is) at c.in-Some-Cc.ensures in other_told _ _ _ _ _ _ _ (subst IsOther e tt) c.tell_not_built.ensures
 
 pub returns-in-Some-Demo : goal.returns-in-Some-Demo
 returns-in-Some-Demo g c = let e = rw (c.deref.ensures.value, c.in-Some-Demo.field-0-is) at c.in-Some-Demo.ensures in other_told _ _ _ _ _ _ _ (subst IsOther e tt) c.tell_not_built-in-Some-Demo.ensures

@@ -1,0 +1,5 @@
+pub mod FirstLine
+pub mod Formed
+pub mod Known
+pub mod Resolved
+pub mod SampleSource

@@ -1,0 +1,4 @@
+pub mod LineWords
+pub mod Walking
+pub mod SeenLines
+pub mod Assembling

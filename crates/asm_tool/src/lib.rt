@@ -1,0 +1,7 @@
+//! The assembler.
+#![tactic(auto)]
+
+mod tool;
+mod words;
+
+pub use tool::assemble;

@@ -1,0 +1,4 @@
+mod FieldTexts
+mod LineSteps
+mod StorageOrder
+mod Values

@@ -1,0 +1,2 @@
+pub mod SomeRun
+pub mod OneOutcome

@@ -1,0 +1,11 @@
+use Rattle.std.proofs.lemmas.Result.{err_from_is_err_and}
+use Rattle.nml_suite.proofs.Describing.{graph_of}
+use Rattle.nml_suite.proofs.describe.graph_of.Goals as goal
+
+pub returns-in_err-tree : goal.returns-in_err-tree
+returns-in_err-tree c =
+    let p = err_from_is_err_and c.from_residual.result c.from_residual.ensures.1 in
+    rw (p.1, p.2) c.in_err-tree.ensures
+
+pub returns : goal.returns
+returns c = graph_of c.args.name.now c.args.bytes.now c.in_ok-tree.tree c.built.result c.in_ok-tree.ensures c.built.ensures

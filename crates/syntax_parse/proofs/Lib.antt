@@ -1,0 +1,4 @@
+pub mod Few
+pub mod Lined
+pub mod Passed
+pub mod Instances
