@@ -1,5 +1,23 @@
 //! Machines that tests read.
 
+/// A machine with one accumulator.
+pub const ACCUMULATOR: &[u8] = br#"reg PC[1, card(4)]
+reg A[1, int(8)]
+out OUT[int(8)]
+op instruction = ldi | outa | hlt
+op ldi(n: int(8))
+  syntax = format("ldi %d", n)
+  image = format("01%8b", n)
+  action = { A = n; }
+op outa()
+  syntax = "outa" image = "1000000000"
+  action = { OUT = A; }
+op hlt(k: card(2))
+  syntax = format("hlt %d", k)
+  image = format("00000000%2b", k)
+  action = { halt(k); }
+"#;
+
 /// A machine with two slots of one kind of move.
 pub const TWO_SLOTS: &[u8] = br#"reg PC[1, card(4)]
 reg R[4, int(8)]
