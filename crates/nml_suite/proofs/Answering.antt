@@ -13,16 +13,17 @@ use Rattle.nml_suite.specs.Answer.{Answers, Moment, IsNamed}
 use Rattle.nml_suite.specs.Cause.{IsOther}
 use Rattle.nml_suite.specs.Coming.{ComesTo}
 use Rattle.nml_command.specs.Form.{Form, Check, Asm, Dis, Run, Cc, Ceval, Demo, named_to_read, named_to_write}
+use Rattle.nml_reply.specs.Refusals.{refused}
+use Rattle.nml_reply.specs.Reply.{Reply, reply, not_built, starved, told_run, usage_line}
+use Rattle.nml_reply.specs.Told.{Told}
+use Rattle.nml_reply.specs.declared.refusal.Refusal.{Refusal}
+use Rattle.nml_reply.specs.declared.status.Status.{Status}
+use Rattle.nml_reply.specs.declared.status.Status.TheVariants as statuses
 use Rattle.nml_suite.specs.Reading.{Store}
-use Rattle.nml_suite.specs.Refusing.{refused, file_named, Settles, IsStored, IsReady}
-use Rattle.nml_suite.specs.Reply.{Reply, reply, not_built, starved, told_run, usage_line}
+use Rattle.nml_suite.specs.Refusing.{file_named, Settles, IsStored, IsReady}
 use Rattle.nml_suite.specs.Running.{TellsRun, TellsRunOf, TellsNone, opened}
-use Rattle.nml_suite.specs.Told.{Told}
 use Rattle.nml_suite.specs.Work.{Work, Written, telling, Filed, Kept, Failed, Starved}
 use Rattle.nml_suite.specs.declared.ready.Ready.{Ready}
-use Rattle.nml_suite.specs.declared.refusal.Refusal.{Refusal}
-use Rattle.nml_suite.specs.declared.status.Status.{Status}
-use Rattle.nml_suite.specs.declared.status.Status.TheVariants as statuses
 use Rattle.nml_suite.proofs.Arriving.{arrived, here}
 use Rattle.nml_suite.proofs.Images.{valid_begins}
 

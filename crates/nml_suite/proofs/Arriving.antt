@@ -20,12 +20,14 @@ use Rattle.c_tree.specs.Resolve.{resolved}
 use Rattle.nml_suite.specs.Programs.{IsProgram}
 use Rattle.nml_suite.specs.Described.{IsAccepted}
 use Rattle.nml_types.specs.declared.checking.Summary.{Summary}
-use Rattle.nml_suite.specs.Reading.{Store, Reading, Got, IsShort, Asked, IsRead}
-use Rattle.nml_suite.specs.Reply.{assembled, starved, unread, told_outcome}
-use Rattle.nml_suite.specs.Refusing.{refused, settled, shown, summed, Settles, Arrives, IsUnread, IsReadAs, IsGraphOf, IsSummedUp, IsAssembledText, IsFound, IsShown, TellsRunOf, IsTargeted, IsCompiled, IsNumbered}
+use Rattle.nml_reply.specs.Reading.{Reading, Got}
+use Rattle.nml_reply.specs.Reply.{assembled, starved, unread, told_outcome}
+use Rattle.nml_reply.specs.Refusals.{refused}
+use Rattle.nml_reply.specs.declared.refusal.Refusal.{Refusal}
+use Rattle.nml_suite.specs.Reading.{Store, IsShort, Asked, IsRead}
+use Rattle.nml_suite.specs.Refusing.{settled, shown, summed, Settles, Arrives, IsUnread, IsReadAs, IsGraphOf, IsSummedUp, IsAssembledText, IsFound, IsShown, TellsRunOf, IsTargeted, IsCompiled, IsNumbered}
 use Rattle.nml_suite.specs.Work.{Work, telling}
 use Rattle.nml_suite.specs.declared.assemble.Assembled.{Assembled}
-use Rattle.nml_suite.specs.declared.refusal.Refusal.{Refusal}
 use Rattle.nml_suite.proofs.Images.{picture_is}
 use Rattle.nml_suite.proofs.ReadRows.{reads_append}
 

@@ -31,13 +31,14 @@ use Rattle.nk_outside.specs.declared.stop.Stop.TheVariants as ends
 use Rattle.c_tree.specs.declared.program.CTree.{CTree}
 use Rattle.nml_suite.specs.Programs.{IsProgram}
 use Rattle.nml_command.specs.Form.{Form, Check, Asm, Dis, Run, Cc, Ceval, Demo, named_to_read}
-use Rattle.nml_suite.specs.Reading.{Store, Reading, Got, Absent, Failed, TooLong, Unread, IsShort, HasReading, Asked}
-use Rattle.nml_suite.specs.Reply.{Reply, unread, starved, not_built, stop_status, told_run, ending_status, told_outcome}
-use Rattle.nml_suite.specs.Told.{Told, Whole, Cut, Starved, CutStarved, EndsIn}
+use Rattle.nml_reply.specs.Reading.{Reading, Got, Absent, Failed, TooLong, Unread}
+use Rattle.nml_reply.specs.Reply.{Reply, unread, starved, not_built, stop_status, told_run, ending_status, told_outcome}
+use Rattle.nml_reply.specs.Told.{Told, Whole, Cut, Starved, CutStarved, EndsIn}
+use Rattle.nml_reply.specs.declared.status.Status.{Status}
+use Rattle.nml_reply.specs.declared.status.Status.TheVariants as statuses
+use Rattle.nml_suite.specs.Reading.{Store, IsShort, HasReading, Asked}
 use Rattle.nml_suite.specs.Work.{Work, telling, Filed, Kept}
 use Rattle.nml_suite.specs.Work as works
-use Rattle.nml_suite.specs.declared.status.Status.{Status}
-use Rattle.nml_suite.specs.declared.status.Status.TheVariants as statuses
 use Rattle.nml_suite.proofs.Filing.{calls_without, counted_by, leaves_of}
 use Rattle.nml_suite.proofs.ReadRows.{Later, causes, reads_later}
 

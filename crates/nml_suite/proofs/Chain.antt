@@ -6,10 +6,11 @@ use Rattle.image_file.specs.File.{Picture}
 use Rattle.nml_suite.specs.Coming.{EndsWith, SumsUp, Summed, Opens, Short, Opened, Accepts, Faulty, Accepted, Sizes, Sized, AssemblesTo, FaultyText, Words, Loads, FaultyImage, Loaded, DisassemblesTo, Shown, RunsTo, Input, Ran, Targets, NoTarget, Targeted, Compiles, FaultyProgram, SoundProgram, EvaluatesTo, BadNumber, Evaluated, ComesTo}
 use Rattle.c_tree.specs.declared.program.CTree.{CTree}
 use Rattle.nml_command.specs.Form.{Form, Check, Asm, Dis, Run, Cc, Ceval, Demo}
-use Rattle.nml_suite.specs.Reading.{Reading, Unread, IsShort, Asked}
-use Rattle.nml_suite.specs.Reply.{Reply}
+use Rattle.nml_reply.specs.Reading.{Reading, Unread}
+use Rattle.nml_reply.specs.Reply.{Reply}
+use Rattle.nml_reply.specs.declared.status.Status.TheVariants as statuses
+use Rattle.nml_suite.specs.Reading.{IsShort, Asked}
 use Rattle.nml_suite.specs.Work.{Work, Written, telling}
-use Rattle.nml_suite.specs.declared.status.Status.TheVariants as statuses
 
 -- no read wanted memory
 abbrev pub NoneUnread : List Asked → Type 0

@@ -10,14 +10,15 @@ use Rattle.nml_suite.specs.Coming.{ComesTo}
 use Rattle.nml_suite.specs.Complete.{NeverFails, AnswersInFull, IsAnswered, IsComplete, AreAnswered, reading_of, told_of}
 use Rattle.nml_suite.specs.Files.{HaveCauses}
 use Rattle.nml_command.specs.Form.{Form}
-use Rattle.nml_suite.specs.Reading.{Store, Reading, Got, Absent, TooLong, Unread, HasReading, Asked}
-use Rattle.nml_suite.specs.Reading as readings
-use Rattle.nml_suite.specs.Reply.{Reply, starved}
-use Rattle.nml_suite.specs.Told.{Told, Whole, Cut, Starved, CutStarved}
+use Rattle.nml_reply.specs.Reading.{Reading, Got, Absent, TooLong, Unread}
+use Rattle.nml_reply.specs.Reading as readings
+use Rattle.nml_reply.specs.Reply.{Reply, starved}
+use Rattle.nml_reply.specs.Told.{Told, Whole, Cut, Starved, CutStarved}
+use Rattle.nml_reply.specs.declared.status.Status.{Status}
+use Rattle.nml_reply.specs.declared.status.Status.TheVariants as statuses
+use Rattle.nml_suite.specs.Reading.{Store, HasReading, Asked}
 use Rattle.nml_suite.specs.Work.{Work, telling, Filed, Kept, Failed}
 use Rattle.nml_suite.specs.Work as works
-use Rattle.nml_suite.specs.declared.status.Status.{Status}
-use Rattle.nml_suite.specs.declared.status.Status.TheVariants as statuses
 use Rattle.nml_suite.proofs.Chain.{NoneUnread, sound}
 use Rattle.nml_suite.proofs.Filing.{counted_by, leaves_of}
 use Rattle.nml_suite.proofs.ReadRows.{Later, causes, reads_later}

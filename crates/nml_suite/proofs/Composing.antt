@@ -15,11 +15,12 @@ use Rattle.asm_text.proofs.OneAnswer.{one_words, apart}
 use Rattle.asm_text.proofs.Right.{right}
 use Rattle.asm_text.proofs.ReadNames.{storage_names}
 use Rattle.asm_text.proofs.RoundTrip.{round_trip}
+use Rattle.nml_reply.specs.Reading.{Reading, Got, Unread}
+use Rattle.nml_reply.specs.Reply.{Reply, disassembled}
 use Rattle.nml_suite.specs.Coming.{EndsWith, Opens, Short, Opened, Accepts, Faulty, Accepted, Sizes, Sized, AssemblesTo, FaultyText, Words, Loads, FaultyImage, Loaded, DisassemblesTo, Shown, AsmComesTo, picture, made}
 use Rattle.nml_suite.specs.Composed.{two_files, Makes, IsProgramOf, RunsFile, RunsText, ShowsFile, ShowsText, AssemblesFile}
 use Rattle.nml_suite.specs.Described.{IsAccepted}
-use Rattle.nml_suite.specs.Reading.{Reading, Got, Unread, IsShort, Asked}
-use Rattle.nml_suite.specs.Reply.{Reply, disassembled}
+use Rattle.nml_suite.specs.Reading.{IsShort, Asked}
 use Rattle.nml_suite.specs.Work.{Work, Written, telling}
 use Rattle.nml_suite.proofs.OneFault.{no_fault, one_accepted}
 use Rattle.nml_suite.proofs.OneWork.{one_width, one_image, no_image_fault}

@@ -22,11 +22,11 @@ use Rattle.asm_tool.specs.Made.{IsImageOfText}
 use Rattle.fault_texts.specs.FaultText.{is_memory}
 use Rattle.fault_texts.specs.AsmFaultText.{is_asm_memory}
 use Rattle.fault_texts.specs.ImageFaultText.{is_image_memory}
+use Rattle.nml_reply.specs.Reply.{Reply, starved, description_fault, text_fault, image_fault}
+use Rattle.nml_reply.specs.declared.refusal.Refusal.{Refusal}
 use Rattle.nml_suite.specs.Described.{IsAccepted, Spells, NoTokens, NoTree, Floating, Refused}
-use Rattle.nml_suite.specs.Reply.{Reply, starved, description_fault, text_fault, image_fault}
 use Rattle.nml_suite.specs.Refusing.{IsReadAs, IsCheckedAs, IsRefusedTree, IsFaulty, IsBuiltOf, IsGraphOf, IsFaultyText, IsFaultyImage, IsAssembledText, HasBytes}
 use Rattle.nml_suite.specs.declared.assemble.Assembled.{Assembled}
-use Rattle.nml_suite.specs.declared.refusal.Refusal.{Refusal}
 
 -- what is told of a fault that a tree is refused for
 pub refused_tree : (name : List ℕ) (tree : Desc) (f : DescFault) (told : Reply) → IsRefused tree f → told ≡ (if is_memory f then starved else description_fault name f)

@@ -7,13 +7,13 @@ use Rattle.nk_outside.specs.declared.stop.Stop.{Stop}
 use Rattle.nk_outside.specs.declared.stop.EvalFault.{EvalFault}
 use Rattle.nk_outside.proofs.Pieces.{took_append, front_after, front_of_first}
 use Rattle.c_eval.specs.Evaluates.{Evaluates}
-use Rattle.nml_suite.specs.Ended.{CountsPuts, Ends}
+use Rattle.nml_reply.specs.Ended.{CountsPuts, Ends}
+use Rattle.nml_reply.specs.Reply.{Reply, told_outcome, ending_line, ending_status}
+use Rattle.nml_reply.specs.Told.{Told, Whole}
+use Rattle.nml_reply.specs.declared.status.Status.{Status}
+use Rattle.nml_reply.proofs.Telling.{told_by}
 use Rattle.nml_suite.specs.Evaluating.{IsTold}
-use Rattle.nml_suite.specs.Reply.{Reply, told_outcome, ending_line, ending_status}
-use Rattle.nml_suite.specs.Told.{Told, Whole}
-use Rattle.nml_suite.specs.declared.status.Status.{Status}
 use Rattle.nml_suite.proofs.Outputs.{counts_alike, ends_alike}
-use Rattle.nml_suite.proofs.Telling.{told_by}
 
 pub put_whole : (o : Outcome) (stop : Stop) (a b c : Option (List ℕ)) (status : Status) → Evaluates o a b (Ok stop) → Took b c (ending_line stop) → status ≡ ending_status stop
     → IsTold (told_outcome o) a c (Ok status)

@@ -1,10 +1,10 @@
 -- What came of the file to be written, after the reads: which files stay, and how many calls there were.
 use Rattle.std.proofs.Common.{◌≡◌, ◌≤◌, ◌+◌, ℕ, List, Option, Some, None, length, refl, sym, ap, ◌∙◌, subst, arith}
 use Rattle.nk_outside.specs.Held.{Names, SameElsewhere}
+use Rattle.nml_reply.specs.Reply.{Reply}
 use Rattle.nml_suite.specs.Answer.{IsNamed}
 use Rattle.nml_suite.specs.Files.{Leaves, LeavesBut, count_of}
 use Rattle.nml_suite.specs.Reading.{Store, Asked, AreRead}
-use Rattle.nml_suite.specs.Reply.{Reply}
 use Rattle.nml_suite.specs.Work.{Work, Written, IsWriteCall, IsSaved, Filed, Kept, Failed, Starved}
 use Rattle.nml_suite.proofs.ReadRows.{Later, counted_once, reads_calls}
 

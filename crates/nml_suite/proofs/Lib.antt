@@ -8,13 +8,10 @@ pub mod Describing
 pub mod Evaluating
 pub mod Filing
 pub mod Images
-pub mod Lines
 pub mod OneFault
 pub mod OneWork
 pub mod Outputs
 pub mod Programs
 pub mod ReadRows
 pub mod SomeWork
-pub mod Telling
 pub mod Untouched
-pub mod TextLines

@@ -23,8 +23,9 @@ use Rattle.nml_suite.specs.Coming.{EndsWith, SumsUp, Summed, Opens, Short, Opene
 use Rattle.nml_suite.specs.Complete.{Answering, AreAnswered, ComesOut}
 use Rattle.nml_suite.specs.Described.{IsAccepted}
 use Rattle.nml_command.specs.Form.{Form, Check, Asm, Dis, Run, Cc, Ceval, Demo}
-use Rattle.nml_suite.specs.Reading.{Got, IsShort, Asked}
-use Rattle.nml_suite.specs.Reply.{Reply, unread, accepted, description_fault, text_fault, image_fault, bad_input, disassembled, told_run, no_target, program_fault, told_outcome}
+use Rattle.nml_reply.specs.Reading.{Got}
+use Rattle.nml_reply.specs.Reply.{Reply, unread, accepted, description_fault, text_fault, image_fault, bad_input, disassembled, told_run, no_target, program_fault, told_outcome}
+use Rattle.nml_suite.specs.Reading.{IsShort, Asked}
 use Rattle.nml_suite.specs.Work.{Work, telling}
 use Rattle.c_tree.specs.declared.program.CTree.{CTree}
 use Rattle.c_tree.specs.Meaning.{outcome}

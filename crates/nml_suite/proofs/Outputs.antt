@@ -18,15 +18,15 @@ use Rattle.nml_tree.specs.Machine.{Now, Turn, Goes, Ends, Found, IsFound, IsTurn
 use Rattle.nml_tree.specs.Table.{Table, table}
 use Rattle.nml_tree.specs.Value.{Cells}
 use Rattle.nml_tree.specs.declared.tree.Desc.{Desc}
-use Rattle.nml_suite.specs.Ended as ended
-use Rattle.nml_suite.specs.Ended.{CountsPuts}
-use Rattle.nml_suite.specs.Reply.{output_line, output_lines, stop_line, stop_status, told_run}
+use Rattle.nml_reply.specs.Ended as ended
+use Rattle.nml_reply.specs.Ended.{CountsPuts}
+use Rattle.nml_reply.specs.Reply.{output_line, output_lines, stop_line, stop_status, told_run, output_text}
+use Rattle.nml_reply.specs.Told.{Whole}
+use Rattle.nml_reply.specs.declared.status.Status.{Status}
+use Rattle.nml_reply.proofs.Telling.{told_by}
 use Rattle.nml_suite.specs.declared.ready.Ready.{Ready}
-use Rattle.nml_suite.specs.Running.{Start, RunsFrom, opened, start, PutsOutputs, PutsCutOutputs, PutsRun, PutsCutRun, TellsRun, TellsRunOf, output_text, put_by, stop_after}
-use Rattle.nml_suite.specs.Told.{Whole}
-use Rattle.nml_suite.specs.declared.status.Status.{Status}
+use Rattle.nml_suite.specs.Running.{Start, RunsFrom, opened, start, PutsOutputs, PutsCutOutputs, PutsRun, PutsCutRun, TellsRun, TellsRunOf, put_by, stop_after}
 use Rattle.nml_suite.proofs.Images.{same_initials}
-use Rattle.nml_suite.proofs.Telling.{told_by}
 
 -- The lines of the outputs, of one list after another.
 outputs_append : (xs ys : List ℤ) → output_lines (xs ++ ys) ≡ output_lines xs ++ output_lines ys

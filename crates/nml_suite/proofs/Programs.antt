@@ -14,10 +14,10 @@ use Rattle.c_lex.proofs.Words.{apart}
 use Rattle.c_grammar.specs.Trees.{IsTree, IsReadFault}
 use Rattle.c_grammar.proofs.OneReading.{one_bytes, tree_or_none, tree_or_outside, none_or_outside, one_place, one_outside}
 use Rattle.c_check.proofs.OneFault as checking
+use Rattle.nml_reply.specs.Reply.{Reply, starved, program_fault}
+use Rattle.nml_reply.specs.declared.refusal.Refusal.{Refusal}
 use Rattle.nml_suite.specs.Programs.{HasProgramFault, NoProgramTokens, LeftOut, NoProgram, RefusedProgram, IsProgram}
-use Rattle.nml_suite.specs.Reply.{Reply, starved, program_fault}
 use Rattle.nml_suite.specs.Refusing.{IsFaultyProgram, IsRefusedProgram, IsProgramChecked, IsCompiled}
-use Rattle.nml_suite.specs.declared.refusal.Refusal.{Refusal}
 
 -- ---- what is told
 

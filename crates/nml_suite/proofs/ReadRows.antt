@@ -2,8 +2,9 @@
 use Rattle.std.proofs.Common.{◌≡◌, ◌≤◌, ◌+◌, ℕ, List, [], ◌∷◌, ◌++◌, length, refl, sym, ◌∙◌, subst, arith}
 use Rattle.nk_outside.specs.Count.{counted}
 use Rattle.nk_outside.specs.Held.{Reads, Lacks, IsTooLong}
+use Rattle.nml_reply.specs.Reading.{Reading, Got, Absent, Failed, TooLong, Unread}
 use Rattle.nml_suite.specs.Files.{HaveCauses}
-use Rattle.nml_suite.specs.Reading.{Store, Reading, Got, Absent, Failed, TooLong, Unread, HasReading, Asked, IsRead, AreRead}
+use Rattle.nml_suite.specs.Reading.{Store, HasReading, Asked, IsRead, AreRead}
 
 -- no more than one call is counted
 pub counted_once : (n : ℕ) → counted n ≤ n + 1

@@ -41,8 +41,9 @@ use Rattle.c_check.proofs.SomeFault.{accepted_if_none}
 use Rattle.nml_suite.specs.Programs.{HasProgramFault, NoProgramTokens, LeftOut, NoProgram, RefusedProgram, IsProgram}
 use Rattle.nml_suite.proofs.Programs.{memory_only}
 use Rattle.nml_command.specs.Form.{Form, Check, Asm, Dis, Run, Cc, Ceval, Demo}
-use Rattle.nml_suite.specs.Reading.{Reading, Got, Absent, Failed, TooLong, Unread, Asked}
-use Rattle.nml_suite.specs.Reply.{Reply, bad_input, disassembled, told_run}
+use Rattle.nml_reply.specs.Reading.{Reading, Got, Absent, Failed, TooLong, Unread}
+use Rattle.nml_reply.specs.Reply.{Reply, bad_input, disassembled, told_run}
+use Rattle.nml_suite.specs.Reading.{Asked}
 use Rattle.nml_suite.specs.Work.{Work, telling}
 
 -- it can't be that reads that are answered so, the first of them being the one at this place, come to nothing

@@ -5,13 +5,13 @@ use Rattle.nml_suite.specs.Answer.{Moment, Answers, AreNamed}
 use Rattle.nml_suite.specs.Coming.{ComesTo}
 use Rattle.nml_suite.specs.Files.{KeepsFiles, HasDefined, HasWork, Leaves, IsRefusal, LeavesOthers, CallsOnce}
 use Rattle.nml_command.specs.Form.{Form, named_to_read, named_to_write}
+use Rattle.nml_reply.specs.Reply.{Reply, starved}
+use Rattle.nml_reply.specs.Told.{Told, Whole, Cut, CutStarved}
+use Rattle.nml_reply.specs.Told as told
+use Rattle.nml_reply.specs.declared.status.Status.{Status}
+use Rattle.nml_reply.specs.declared.status.Status.TheVariants as statuses
 use Rattle.nml_suite.specs.Reading.{Store, Asked}
-use Rattle.nml_suite.specs.Reply.{Reply, starved}
-use Rattle.nml_suite.specs.Told.{Told, Whole, Cut, CutStarved}
-use Rattle.nml_suite.specs.Told as told
 use Rattle.nml_suite.specs.Work.{Work, Written, telling, Filed, Kept, Failed, Starved}
-use Rattle.nml_suite.specs.declared.status.Status.{Status}
-use Rattle.nml_suite.specs.declared.status.Status.TheVariants as statuses
 use Rattle.nml_suite.proofs.Chain.{sound}
 use Rattle.nml_suite.proofs.Filing.{counted_by, calls_at_most, filed_but, leaves_of}
 use Rattle.nml_suite.proofs.ReadRows.{Later, causes, reads_later}

@@ -4,11 +4,11 @@ use Rattle.nk_outside.specs.Count.{Counts}
 use Rattle.nk_outside.specs.Held.{Names}
 use Rattle.nml_suite.specs.Coming.{ComesTo}
 use Rattle.nml_command.specs.Form.{Form, named_to_read, named_to_write}
+use Rattle.nml_reply.specs.Reply.{Reply, starved}
+use Rattle.nml_reply.specs.Told.{Told}
+use Rattle.nml_reply.specs.declared.status.Status.{Status}
 use Rattle.nml_suite.specs.Reading.{Store, store, Asked, AreRead}
-use Rattle.nml_suite.specs.Reply.{Reply, starved}
-use Rattle.nml_suite.specs.Told.{Told}
 use Rattle.nml_suite.specs.Work.{Work, Written, telling, Filed}
-use Rattle.nml_suite.specs.declared.status.Status.{Status}
 
 -- what the call sees and changes of the world: the files, and the sink's bytes and faults
 pub record Moment : Type 0 where

@@ -39,11 +39,11 @@ use Rattle.nml_suite.specs.Described.{HasFault, IsAccepted}
 use Rattle.nml_suite.specs.Programs.{HasProgramFault, IsProgram}
 use Rattle.nml_suite.specs.Files.{Leaves}
 use Rattle.nml_command.specs.Form.{Form, Check, Asm, Dis, Run, Cc, Ceval, Demo, named_to_read, named_to_write}
-use Rattle.nml_suite.specs.Reading.{Reading, Absent, Failed, TooLong}
-use Rattle.nml_suite.specs.Reply.{usage_line, unread, description_fault, text_fault, image_fault, not_built, accepted, bad_input, disassembled, told_run, no_target, program_fault, told_outcome}
-use Rattle.nml_suite.specs.Told.{EndsIn}
-use Rattle.nml_suite.specs.declared.status.Status.{Status}
-use Rattle.nml_suite.specs.declared.status.Status.TheVariants as statuses
+use Rattle.nml_reply.specs.Reading.{Reading, Absent, Failed, TooLong}
+use Rattle.nml_reply.specs.Reply.{usage_line, unread, description_fault, text_fault, image_fault, not_built, accepted, bad_input, disassembled, told_run, no_target, program_fault, told_outcome}
+use Rattle.nml_reply.specs.Told.{EndsIn}
+use Rattle.nml_reply.specs.declared.status.Status.{Status}
+use Rattle.nml_reply.specs.declared.status.Status.TheVariants as statuses
 
 -- ---- a file that the words name
 

@@ -31,10 +31,11 @@ use Rattle.c_tree.specs.Resolve.{resolved}
 use Rattle.nml_suite.specs.Described.{HasFault, IsAccepted}
 use Rattle.nml_suite.specs.Programs.{HasProgramFault, IsProgram}
 use Rattle.nml_command.specs.Form.{Form, Check, Asm, Dis, Run, Cc, Ceval, Demo}
-use Rattle.nml_suite.specs.Reading.{Reading, Got, Asked, IsShort}
-use Rattle.nml_suite.specs.Reply.{Reply, reply, unread, usage_line, description_fault, text_fault, image_fault, not_built, accepted, bad_input, assembled, disassembled, told_run, no_target, program_fault, told_outcome}
+use Rattle.nml_reply.specs.Reading.{Reading, Got}
+use Rattle.nml_reply.specs.Reply.{Reply, reply, unread, usage_line, description_fault, text_fault, image_fault, not_built, accepted, bad_input, assembled, disassembled, told_run, no_target, program_fault, told_outcome}
+use Rattle.nml_reply.specs.declared.status.Status.TheVariants as statuses
+use Rattle.nml_suite.specs.Reading.{Asked, IsShort}
 use Rattle.nml_suite.specs.Work.{Work, Written, telling}
-use Rattle.nml_suite.specs.declared.status.Status.TheVariants as statuses
 
 -- ---- the steps of a command
 

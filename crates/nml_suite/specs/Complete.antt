@@ -8,10 +8,11 @@ use Rattle.nml_suite.specs.Answer.{Moment}
 use Rattle.nml_suite.specs.Coming.{ComesTo}
 use Rattle.nml_suite.specs.Files.{Leaves}
 use Rattle.nml_command.specs.Form.{Form}
-use Rattle.nml_suite.specs.Reading.{Reading, Got, Absent, TooLong, Unread, Asked}
+use Rattle.nml_reply.specs.Reading.{Reading, Got, Absent, TooLong, Unread}
+use Rattle.nml_reply.specs.declared.status.Status.{Status}
+use Rattle.nml_reply.specs.declared.status.Status.TheVariants as statuses
+use Rattle.nml_suite.specs.Reading.{Asked}
 use Rattle.nml_suite.specs.Work.{Work}
-use Rattle.nml_suite.specs.declared.status.Status.{Status}
-use Rattle.nml_suite.specs.declared.status.Status.TheVariants as statuses
 
 -- ---- what is defined
 

@@ -6,11 +6,12 @@ use Rattle.nml_tree.specs.Machine.{Initial}
 use Rattle.nml_tree.specs.Valid.{IsWordWidth}
 use Rattle.asm_text.specs.Answer.{IsAssembled}
 use Rattle.asm_text.specs.Canonical.{IsCanonical}
+use Rattle.nml_reply.specs.Reply.{disassembled}
+use Rattle.nml_reply.specs.Reading.{Got}
 use Rattle.nml_suite.specs.Coming.{AsmComesTo, DisComesTo, RunComesTo, RunsTo, picture}
 use Rattle.nml_suite.specs.Described.{IsAccepted}
-use Rattle.nml_suite.specs.Reply.{disassembled}
 use Rattle.nml_suite.specs.Work.{Work, Written, telling}
-use Rattle.nml_suite.specs.Reading.{Asked, Got}
+use Rattle.nml_suite.specs.Reading.{Asked}
 
 -- what is asked for, where a description has these bytes and a second file those
 abbrev pub two_files : (description bytes other text : List ℕ) → List Asked

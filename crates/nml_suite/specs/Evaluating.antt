@@ -2,8 +2,8 @@
 use Rattle.std.specs.Prelude.{◌≡◌, ℕ, List, Option, Result, Ok, Err}
 use Rattle.nk_outside.specs.Taken.{Took, TookFront}
 use Rattle.nk_outside.specs.declared.files.WriteFault.{WriteFault}
-use Rattle.nml_suite.specs.Reply.{Reply}
-use Rattle.nml_suite.specs.declared.status.Status.{Status}
+use Rattle.nml_reply.specs.Reply.{Reply}
+use Rattle.nml_reply.specs.declared.status.Status.{Status}
 
 -- the whole text was taken, and this is its status; or a front of it was taken
 abbrev pub IsTold : Reply → Option (List ℕ) → Option (List ℕ) → Result Status WriteFault → Type 0

@@ -5,10 +5,10 @@ use Rattle.nk_outside.specs.Held.{Holds, SameElsewhere}
 use Rattle.nml_suite.specs.Answer.{Moment}
 use Rattle.nml_suite.specs.Coming.{ComesTo}
 use Rattle.nml_command.specs.Form.{Form, named_to_read, named_to_write}
+use Rattle.nml_reply.specs.declared.status.Status.{Status}
+use Rattle.nml_reply.specs.declared.status.Status.TheVariants as statuses
 use Rattle.nml_suite.specs.Reading.{Store, Asked, HasReading}
 use Rattle.nml_suite.specs.Work.{Work, Written}
-use Rattle.nml_suite.specs.declared.status.Status.{Status}
-use Rattle.nml_suite.specs.declared.status.Status.TheVariants as statuses
 
 -- no file is changed, and no write failed
 pub record KeepsFiles (before now : Store) : Type 0 where

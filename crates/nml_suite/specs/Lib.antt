@@ -1,11 +1,8 @@
-pub mod Status
 pub mod Reading
-pub mod Reply
 pub mod Work
 pub mod Described
 pub mod Programs
 pub mod Coming
-pub mod Told
 pub mod Answer
 pub mod Files
 pub mod Cause
@@ -13,8 +10,6 @@ pub mod Complete
 pub mod Promises
 pub mod Composed
 pub mod Sample
-pub mod Seen
-pub mod Ended
 pub mod Running
 pub mod Evaluating
 pub mod Refusing

@@ -5,7 +5,7 @@ use Rattle.nml_suite.specs.Cause.{HasCause, IsUsage}
 use Rattle.nml_suite.specs.Complete.{IsComplete}
 use Rattle.nml_suite.specs.Files.{LeavesOthers, CallsOnce}
 use Rattle.nml_command.specs.Form.{Form}
-use Rattle.nml_suite.specs.declared.status.Status.{Status}
+use Rattle.nml_reply.specs.declared.status.Status.{Status}
 
 pub record KeepsPromises (before now : Moment) (form : Option Form) (status : Status) : Type 0 where
   -- what was read and what that comes to, what came of the write, and what was told

@@ -1,7 +1,8 @@
--- What the read of a file answered and its cause, and a row of reads one after the other.
+-- The cause of what the read of a file answered, and a row of reads one after the other.
 use Rattle.std.specs.Prelude.{◌≡◌, ◌≤◌, ℕ, List, [], ◌∷◌, Option}
 use Rattle.nk_outside.specs.Count.{Counts, counted, Rose}
 use Rattle.nk_outside.specs.Held.{Names, Reads, Lacks, IsTooLong}
+use Rattle.nml_reply.specs.Reading.{Reading, Got, Absent, Failed, TooLong, Unread}
 
 -- the files: what they hold, and their counts
 pub record Store : Type 0 where
@@ -10,14 +11,6 @@ pub record Store : Type 0 where
 
 abbrev pub store : Option Names → Counts → Store
 store held counts = record { held = held; counts = counts }
-
--- Memory was wanted where a file stays unread.
-pub data Reading : Type 0 where
-  Got : List ℕ → Reading
-  Absent : Reading
-  Failed : Reading
-  TooLong : Reading
-  Unread : Reading
 
 -- no bytes came, and not for want of memory
 abbrev pub IsShort : Reading → Type 0

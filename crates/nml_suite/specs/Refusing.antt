@@ -1,4 +1,4 @@
--- For private contracts: what a refusal tells, what a step of a command refuses, and what the reading of its files comes to.
+-- For private contracts: what a step of a command refuses, and what the reading of its files comes to.
 use Rattle.std.specs.Prelude.{◌≡◌, ◌⊎◌, ℕ, List, [], ◌∷◌, ◌++◌, ℤ, ◌≤◌, Option, Some, Result, Ok, Err}
 use Rattle.std.specs.Global.{Vec}
 use Rattle.sha2.specs.Sha256.{sha256}
@@ -41,33 +41,17 @@ use Rattle.c_tree.specs.Accepted.{IsAcceptedTree, IsTreeFaultOf}
 use Rattle.c_tree.specs.Meaning.{outcome}
 use Rattle.c_tree.specs.Resolve.{resolved}
 use Rattle.c_grammar.specs.Trees.{IsTree}
+use Rattle.nml_reply.specs.Reading.{Reading, Got}
+use Rattle.nml_reply.specs.Refusals.{refused, Wants}
+use Rattle.nml_reply.specs.Reply.{Reply, starved, unread, write_failed, description_fault, text_fault, image_fault, accepted, bad_input, assembled, disassembled, told_run, no_target, program_fault, told_outcome}
+use Rattle.nml_reply.specs.declared.refusal.Refusal.{Refusal}
 use Rattle.nml_suite.specs.Programs.{HasProgramFault, IsProgram}
 use Rattle.nml_suite.specs.declared.ceval.Prepared.{Prepared}
 use Rattle.nml_suite.specs.Described.{HasFault, Spells, IsAccepted}
-use Rattle.nml_suite.specs.Reading.{Store, Reading, Got, Absent, Failed, TooLong, IsShort, Asked, IsRead, AreRead}
-use Rattle.nml_suite.specs.Reply.{Reply, starved, unread, write_failed, description_fault, text_fault, image_fault, accepted, bad_input, assembled, disassembled, told_run, no_target, program_fault, told_outcome}
+use Rattle.nml_suite.specs.Reading.{Store, IsShort, Asked, IsRead, AreRead}
 use Rattle.nml_suite.specs.Work.{Work, Written, telling, IsWriteCall, HasWritten}
 use Rattle.nml_suite.specs.declared.assemble.Assembled.{Assembled}
 use Rattle.nml_suite.specs.declared.ready.Ready.{Ready}
-use Rattle.nml_suite.specs.declared.refusal.Refusal.{Refusal}
-use Rattle.nml_suite.specs.declared.refusal.Refusal.TheVariants as refusals
-
-abbrev pub refused : Refusal → Reply
-refused refusals.Memory = starved
-refused (refusals.Absent name) = unread name.now Absent
-refused (refusals.Failed name) = unread name.now Failed
-refused (refusals.TooLong name) = unread name.now TooLong
-refused (refusals.Unwritten name) = write_failed name.now
-refused (refusals.Description name fault) = description_fault name.now fault
-refused (refusals.Source name fault) = text_fault name.now fault
-refused (refusals.Image name fault) = image_fault name.now fault
-refused (refusals.Input name line) = bad_input name.now line
-refused (refusals.Program name fault) = program_fault name.now fault
-refused (refusals.NoTarget name what) = no_target name.now what
-
--- memory was wanted
-abbrev pub Wants : Refusal → Type 0
-Wants refusal = refused refusal ≡ starved
 
 -- ---- a row of reads, and what it comes to
 

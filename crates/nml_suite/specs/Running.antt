@@ -1,5 +1,5 @@
 -- For private contracts: what was put out of a run.
-use Rattle.std.specs.Prelude.{◌≡◌, ℕ, List, [], ℤ, pos, Bool, true, false, Option, Some, None, Result, Ok, Err}
+use Rattle.std.specs.Prelude.{◌≡◌, ℕ, List, ℤ, pos, Bool, true, false, Option, Some, None, Result, Ok, Err}
 use Rattle.nk_outside.specs.Taken.{Took, TookFront}
 use Rattle.nk_outside.specs.declared.files.WriteFault.{WriteFault}
 use Rattle.nml_tree.specs.Machine as machine
@@ -11,13 +11,13 @@ use Rattle.image_file.specs.Seen.{picture_of}
 use Rattle.bit_sim.specs.Simulator.{Simulator, at}
 use Rattle.bit_sim.specs.declared.step.Step.{Step}
 use Rattle.bit_sim.specs.declared.step.Step.TheVariants as steps
+use Rattle.nml_reply.specs.Reply.{output_lines, starved, told_run}
+use Rattle.nml_reply.specs.Seen.{stop_of}
+use Rattle.nml_reply.specs.Told.{Told}
+use Rattle.nml_reply.specs.declared.status.Status.{Status}
+use Rattle.nml_reply.specs.declared.stop.Stop.{Stop}
 use Rattle.nml_suite.specs.Coming.{initials}
-use Rattle.nml_suite.specs.Reply.{output_line, output_lines, starved, told_run}
-use Rattle.nml_suite.specs.Seen.{stop_of}
-use Rattle.nml_suite.specs.Told.{Told}
 use Rattle.nml_suite.specs.declared.ready.Ready.{Ready}
-use Rattle.nml_suite.specs.declared.status.Status.{Status}
-use Rattle.nml_suite.specs.declared.stop.Stop.{Stop}
 
 -- what a step puts out
 abbrev pub put_by : Step → Option ℤ
@@ -34,11 +34,6 @@ stop_after steps.Wants = Some machine.Wanted
 stop_after (steps.Halted code out took) = Some (machine.Halted (pos code))
 stop_after (steps.NoWord place) = Some (machine.NoWord place)
 stop_after (steps.BadWord place) = Some (machine.BadWord place)
-
--- the text of an output, where there is one
-abbrev pub output_text : Option ℤ → List ℕ
-output_text None = []
-output_text (Some z) = output_line z
 
 -- where a run begins: the description, the words, the cells, and the input
 pub record Start : Type 0 where

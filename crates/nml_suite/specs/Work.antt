@@ -2,8 +2,8 @@
 use Rattle.std.specs.Prelude.{◌≡◌, ◌≤◌, ℕ, List, Option, Some, None}
 use Rattle.nk_outside.specs.Count.{counted, Rose}
 use Rattle.nk_outside.specs.Held.{Holds, SameElsewhere}
+use Rattle.nml_reply.specs.Reply.{Reply, starved, write_failed}
 use Rattle.nml_suite.specs.Reading.{Store}
-use Rattle.nml_suite.specs.Reply.{Reply, starved, write_failed}
 
 -- a file that is written: its name, and its bytes
 pub record Written : Type 0 where

@@ -1,14 +1,12 @@
 ghost use Rattle.std.specs.Prelude.{◌≡◌, ◌≢◌, [], drop, map, string_bytes, IfOk, IfErr, IsErr};
 ghost use Rattle.std.specs.Vec.Iter.{into_iter_items};
 ghost use Rattle.std.specs.IoError.{error_kind};
-ghost use Rattle.nml_suite.specs.Reply.{starved};
-ghost use Rattle.nml_suite.specs.Told.{Told};
+ghost use Rattle.nml_reply.specs.Reply.{starved};
+ghost use Rattle.nml_reply.specs.Told.{Told};
 
-use crate::Status;
-use crate::refusal::Refusal;
-use crate::tell::tell_refusal;
 use nk_base::{Memory, Text};
 use nk_outside::Sink;
+use nml_reply::{Refusal, Status, tell_refusal};
 use std::alloc::Global;
 use std::env::Args;
 use std::io::{self, ErrorKind};

@@ -4,20 +4,21 @@ ghost use Rattle.image_file.specs.File.{HasFile};
 ghost use Rattle.image_file.specs.Seen.{picture_of};
 ghost use Rattle.isg_graph.specs.Graph.{IsGraph};
 ghost use Rattle.nk_outside.specs.Held.{file_limit};
+ghost use Rattle.nml_reply.specs.Refusals.{refused};
+ghost use Rattle.nml_reply.specs.Reply.{starved, text_fault};
 ghost use Rattle.nml_suite.specs.Coming.{AsmComesTo};
 ghost use Rattle.nml_suite.specs.Reading.{store};
-ghost use Rattle.nml_suite.specs.Refusing.{HasBytes, IsAssembledText, IsMadeOfText, IsStored, Settles, file_named, refused, settled};
-ghost use Rattle.nml_suite.specs.Reply.{starved, text_fault};
+ghost use Rattle.nml_suite.specs.Refusing.{HasBytes, IsAssembledText, IsMadeOfText, IsStored, Settles, file_named, settled};
 
 use crate::describe::graph_of;
 use crate::load::load;
-use crate::refusal::Refusal;
 use asm_text::AsmFault;
 use fault_texts::is_asm_memory;
 use image_file::{Image, write};
 use isg_graph::Isg;
 use nk_base::{Memory, Text};
 use nk_outside::{Files, WriteFault};
+use nml_reply::Refusal;
 use sha2::{Digest, Sha256};
 use std::alloc::Global;
 

@@ -1,15 +1,15 @@
 ghost use Rattle.std.specs.Prelude.{◌≡◌, ◌≤◌, ◌∷◌, [], ℕ, length, if◌then◌else◌};
 ghost use Rattle.fault_texts.specs.CFaultText as text;
 ghost use Rattle.nk_outside.specs.Held.{file_limit};
+ghost use Rattle.nml_reply.specs.Refusals.{refused};
+ghost use Rattle.nml_reply.specs.Reply.{program_fault, starved};
 ghost use Rattle.nml_suite.specs.Coming.{CevalComesTo};
 ghost use Rattle.nml_suite.specs.Reading.{store};
-ghost use Rattle.nml_suite.specs.Refusing.{IsCompiled, IsProgramChecked, IsProgramSpelled, IsTargeted, Settles, evaluated, refused};
-ghost use Rattle.nml_suite.specs.Reply.{program_fault, starved};
+ghost use Rattle.nml_suite.specs.Refusing.{IsCompiled, IsProgramChecked, IsProgramSpelled, IsTargeted, Settles, evaluated};
 
 use crate::describe::{accepted, tree_of};
 use crate::input::numbered;
 use crate::load::load;
-use crate::refusal::Refusal;
 use c_check::check;
 use c_read::read;
 use c_tree::{CFault, CProg, CTree};
@@ -17,6 +17,7 @@ use fault_texts::is_c_memory;
 use nk_base::{Memory, Text, Ty};
 use nk_outside::Files;
 use nml_known::Names;
+use nml_reply::Refusal;
 use nml_target::target;
 use nml_tree::Desc;
 use std::alloc::Global;

@@ -1,15 +1,16 @@
 ghost use Rattle.std.specs.Prelude.{◌≡◌, ◌≤◌, length, if◌then◌else◌};
 ghost use Rattle.fault_texts.specs.FaultText as text;
 ghost use Rattle.nk_outside.specs.Held.{file_limit};
-ghost use Rattle.nml_suite.specs.Refusing.{IsBuiltOf, IsCheckedAs, IsGraphOf, IsReadAs, IsSpelledAs, refused};
-ghost use Rattle.nml_suite.specs.Reply.{description_fault, starved};
+ghost use Rattle.nml_reply.specs.Refusals.{refused};
+ghost use Rattle.nml_reply.specs.Reply.{description_fault, starved};
+ghost use Rattle.nml_suite.specs.Refusing.{IsBuiltOf, IsCheckedAs, IsGraphOf, IsReadAs, IsSpelledAs};
 
-use crate::refusal::Refusal;
 use fault_texts::is_memory;
 use isg_build::build;
 use isg_graph::Isg;
 use nk_base::{Memory, Text};
 use nml_read::read;
+use nml_reply::Refusal;
 use nml_tree::{Checked, Desc, DescFault};
 use nml_types::check;
 use std::alloc::Global;

@@ -10,12 +10,12 @@ ghost use Rattle.nml_tree.specs.Table.{table};
 use crate::describe::graph_of;
 use crate::image::find_image;
 use crate::load::load;
-use crate::refusal::Refusal;
 use disasm_tool::disassemble;
 use image_file::Image;
 use isg_graph::Isg;
 use nk_base::{Memory, Text};
 use nk_outside::Files;
+use nml_reply::Refusal;
 use std::alloc::Global;
 
 /// Reads a description and an image, and refuses the first before the second is read; answers the canonical text of the image.

@@ -2,17 +2,15 @@ ghost use Rattle.std.specs.Prelude.{◌≡◌, IfOk, OnOk, OnErr};
 ghost use Rattle.c_tree.specs.Meaning.{outcome};
 ghost use Rattle.c_tree.specs.Resolve.{resolved};
 ghost use Rattle.nk_outside.specs.Taken.{Took, TookFront};
-ghost use Rattle.nml_suite.specs.Ended.{CountsPuts};
+ghost use Rattle.nml_reply.specs.Ended.{CountsPuts};
+ghost use Rattle.nml_reply.specs.Reply as spec;
+ghost use Rattle.nml_reply.specs.Told.{Told};
 ghost use Rattle.nml_suite.specs.Evaluating.{IsTold};
-ghost use Rattle.nml_suite.specs.Reply as spec;
-ghost use Rattle.nml_suite.specs.Told.{Told};
 
-use crate::Status;
 use crate::ceval::Prepared;
-use crate::run::put_line;
-use crate::tell::{ended, put};
 use c_eval::eval;
 use nk_outside::{EvalFault, Sink, Stop, WriteFault};
+use nml_reply::{Status, ended, put, put_line};
 use std::alloc::Global;
 
 /// Runs a program for at most so many turns: puts each output as it arises, and then how it stopped.

@@ -1,15 +1,16 @@
 ghost use Rattle.std.specs.Prelude.{◌≡◌, ◌≤◌, length, if◌then◌else◌};
 ghost use Rattle.fault_texts.specs.ImageFaultText as text_of;
 ghost use Rattle.nk_outside.specs.Held.{file_limit};
-ghost use Rattle.nml_suite.specs.Refusing.{IsFound, IsLayoutOf, refused};
-ghost use Rattle.nml_suite.specs.Reply.{image_fault, starved};
+ghost use Rattle.nml_reply.specs.Refusals.{refused};
+ghost use Rattle.nml_reply.specs.Reply.{image_fault, starved};
+ghost use Rattle.nml_suite.specs.Refusing.{IsFound, IsLayoutOf};
 
-use crate::refusal::Refusal;
 use fault_texts::is_image_memory;
 use image_file::{Image, ImageFault, Layout, read};
 use image_layout::layout_of;
 use isg_graph::Isg;
 use nk_base::{Memory, Text};
+use nml_reply::Refusal;
 use sha2::{Digest, Sha256};
 use std::alloc::Global;
 

@@ -3,9 +3,9 @@ ghost use Rattle.input_lines.specs.Reading.{IsInput};
 ghost use Rattle.nk_outside.specs.Held.{file_limit};
 ghost use Rattle.nml_suite.specs.Refusing.{IsNumbered};
 
-use crate::refusal::Refusal;
 use input_lines::{InputFault, numbers_of};
 use nk_base::{Text, Ty};
+use nml_reply::Refusal;
 use std::alloc::Global;
 
 /// The numbers that the lines of the named file's text write, each of the input's type, where there is an input.

@@ -12,15 +12,11 @@ mod input;
 mod law;
 mod load;
 mod ready;
-mod refusal;
 mod run;
-mod status;
-mod stop;
 mod summary;
-mod tell;
 mod top;
 
 pub use arguments::{tell_memory, words_of};
 pub use law::{asm_then_dis, asm_then_run, one_work, some_work};
-pub use status::Status;
+pub use nml_reply::Status;
 pub use top::suite;

@@ -1,9 +1,9 @@
 ghost use Rattle.nml_suite.specs.Reading.{store};
 ghost use Rattle.nml_suite.specs.Refusing.{IsLoaded};
 
-use crate::refusal::Refusal;
 use nk_base::Text;
 use nk_outside::{Files, ReadFault};
+use nml_reply::Refusal;
 use std::alloc::Global;
 
 /// Reads a file, or refuses it by its name.

@@ -5,12 +5,12 @@ use crate::describe::graph_of;
 use crate::image::find_image;
 use crate::input::numbered;
 use crate::load::load;
-use crate::refusal::Refusal;
 use image_file::Image;
 use input_port::input_type;
 use isg_graph::Isg;
 use nk_base::Text;
 use nk_outside::Files;
+use nml_reply::Refusal;
 use std::alloc::Global;
 
 /// What a run begins with: a description's graph, an image of it, and the numbers of its input.

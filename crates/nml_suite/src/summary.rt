@@ -5,9 +5,9 @@ ghost use Rattle.nml_suite.specs.Refusing.{IsSummedUp, Settles, summed};
 
 use crate::describe::accepted;
 use crate::load::load;
-use crate::refusal::Refusal;
 use nk_base::{Memory, Text};
 use nk_outside::Files;
+use nml_reply::Refusal;
 use nml_tree::Checked;
 use nml_types::{Summary, sum_up};
 use std::alloc::Global;

@@ -1,11 +1,10 @@
 ghost use Rattle.std.specs.Prelude.{Some};
-ghost use Rattle.nml_suite.specs.Answer.{Answers, moment};
 ghost use Rattle.nml_command.specs.Form.{form_of, Asm, Ceval, Check, Dis, Run};
+ghost use Rattle.nml_reply.specs.Reply.{not_built};
+ghost use Rattle.nml_reply.specs.Told.{Told};
+ghost use Rattle.nml_suite.specs.Answer.{Answers, moment};
 ghost use Rattle.nml_suite.specs.Promises.{KeepsPromises};
-ghost use Rattle.nml_suite.specs.Reply.{not_built};
-ghost use Rattle.nml_suite.specs.Told.{Told};
 
-use crate::Status;
 use crate::assemble::{assemble, save};
 use crate::ceval::prepare_program;
 use crate::dis::disassembled;
@@ -13,10 +12,10 @@ use crate::evaluate::tell_outcome;
 use crate::ready::prepare;
 use crate::run::tell_run;
 use crate::summary::sum_up_file;
-use crate::tell::{tell, tell_assembled, tell_refusal, tell_summary, tell_text};
 use nk_base::Text;
 use nk_outside::{Files, Sink};
 use nml_command::{Command, command_of};
+use nml_reply::{Status, tell, tell_assembled, tell_refusal, tell_summary, tell_text};
 use std::alloc::Global;
 
 /// Where the words match no form.
@@ -132,7 +131,7 @@ fn answer_asm<F: Files, S: Sink>(
         Err(refusal) => return tell_refusal(alloc, sink, &refusal),
     };
     match save(alloc, files, image, &made) {
-        Ok(()) => tell_assembled(alloc, sink, &made),
+        Ok(()) => tell_assembled(alloc, sink, &made.image),
         Err(refusal) => tell_refusal(alloc, sink, &refusal),
     }
 }

@@ -1,7 +1,7 @@
 use Rattle.std.proofs.Common.{subst, arith, ◌∙◌}
 use Rattle.std.proofs.lemmas.Result.{err_from_is_err_and}
 use Rattle.nk_outside.specs.Taken.{Took, TookFront}
-use Rattle.nml_suite.specs.Running.{output_text}
+use Rattle.nml_reply.specs.Reply.{output_text}
 use Rattle.nml_suite.proofs.Outputs.{after_turns, in_turn, one_more, put_all, put_cut, put_to_stop, stepped}
 use Rattle.nml_suite.proofs.run.put_outputs.Goals as goal
 

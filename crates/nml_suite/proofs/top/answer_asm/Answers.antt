@@ -1,5 +1,5 @@
 use Rattle.std.proofs.Common.{refl}
-use Rattle.nml_suite.specs.Refusing.{refused}
+use Rattle.nml_reply.specs.Refusals.{refused}
 use Rattle.nml_suite.proofs.Answering.{told_alone, saved_told, unsaved_told}
 use Rattle.nml_suite.proofs.top.answer_asm.Goals as goal
 

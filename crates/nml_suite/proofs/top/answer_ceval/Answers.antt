@@ -1,7 +1,7 @@
 use Rattle.c_tree.specs.Meaning.{outcome}
 use Rattle.c_tree.specs.Resolve.{resolved}
-use Rattle.nml_suite.specs.Refusing.{refused}
-use Rattle.nml_suite.specs.Reply.{told_outcome}
+use Rattle.nml_reply.specs.Refusals.{refused}
+use Rattle.nml_reply.specs.Reply.{told_outcome}
 use Rattle.nml_suite.proofs.Answering.{told_alone}
 use Rattle.nml_suite.proofs.top.answer_ceval.Goals as goal
 

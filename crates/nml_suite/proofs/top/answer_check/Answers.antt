@@ -1,5 +1,5 @@
-use Rattle.nml_suite.specs.Refusing.{refused}
-use Rattle.nml_suite.specs.Reply.{accepted}
+use Rattle.nml_reply.specs.Refusals.{refused}
+use Rattle.nml_reply.specs.Reply.{accepted}
 use Rattle.nml_suite.proofs.Answering.{told_alone}
 use Rattle.nml_suite.proofs.top.answer_check.Goals as goal
 

@@ -1,4 +1,4 @@
-use Rattle.nml_suite.specs.Refusing.{refused}
+use Rattle.nml_reply.specs.Refusals.{refused}
 use Rattle.nml_suite.proofs.Answering.{told_alone, run_told, ready_begins, ready_fits, ready_none}
 use Rattle.nml_suite.proofs.top.answer_run.Goals as goal
 

@@ -1,7 +1,0 @@
-use Rattle.nml_suite.proofs.Telling.{told_by}
-use Rattle.nml_suite.proofs.tell.tell_text.Goals as goal
-
-pub returns : goal.returns
-returns g c =
-    let p = c.put_lines-done.ensures in
-    told_by _ _ _ _ _ _ _ _ _ (rw c.as_bytes.ensures at p.ok) (rw c.as_bytes.ensures at p.err) p.counts c.ended.ensures
