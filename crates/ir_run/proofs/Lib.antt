@@ -1,0 +1,6 @@
+pub mod Nodes
+pub mod Agreement
+pub mod Simulation
+mod Values
+mod Tables
+mod Runs

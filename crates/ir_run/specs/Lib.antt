@@ -1,0 +1,11 @@
+pub mod Runs
+pub mod Simulation
+pub mod Node
+pub mod Entry
+pub mod Value
+pub mod Run
+pub mod Shifts
+pub mod Prints
+pub mod Stands
+pub mod Running
+pub mod Sample
