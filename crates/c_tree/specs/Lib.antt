@@ -17,7 +17,12 @@ pub mod Meaning
 pub mod Faults
 pub mod Recursion
 pub mod Accepted
+pub mod Code
+pub mod Lowered
+pub mod Counts
+pub mod AgreeIr
 pub mod Texts
+pub mod SampleLowered
 pub mod SampleRuns
 pub mod SampleFaults
 pub mod SampleSpelled

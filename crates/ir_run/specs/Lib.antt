@@ -4,6 +4,9 @@ pub mod Node
 pub mod Entry
 pub mod Value
 pub mod Run
+pub mod Size
+pub mod Strict
+pub mod Promise
 pub mod Shifts
 pub mod Prints
 pub mod Stands
