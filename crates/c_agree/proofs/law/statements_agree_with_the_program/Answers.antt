@@ -1,0 +1,5 @@
+use Rattle.c_agree.proofs.World.{Fits, CallsMet, PieceMet, PassingMet, JumpMet, IndexMet, IsCalled, Ground, IsHome, payable}
+use Rattle.c_agree.proofs.law.statements_agree_with_the_program.Goals as goal
+
+pub returns : goal.returns
+returns c = ?
