@@ -1,3 +1,6 @@
 mod Cells
 mod Calls
 mod Nodes
+mod Wrapping
+mod Weights
+mod Numbers
