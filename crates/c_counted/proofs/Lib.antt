@@ -4,3 +4,7 @@ mod Nodes
 mod Wrapping
 mod Weights
 mod Numbers
+pub mod Members
+mod Lengths
+mod Programs
+mod Same
