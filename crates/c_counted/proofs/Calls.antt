@@ -1,14 +1,14 @@
 -- The statements of a command have one return label for each call in it.
-use Rattle.std.proofs.Common.{◌≡◌, refl, ◌∙◌, ℕ, zero, suc, ◌+◌, ◌-◌, ◌^◌, nat_lt, pos, Bool, true, false, ◌||◌, List, [], ◌∷◌, ◌++◌, length, Option, Some, None, arith, if◌then◌else◌}
+use Rattle.std.proofs.Common.{◌≡◌, refl, ◌∙◌, ℕ, zero, suc, ◌+◌, ◌-◌, ◌^◌, nat_lt, pos, Bool, true, false, List, [], ◌∷◌, ◌++◌, length, Option, Some, None, arith, if◌then◌else◌}
 use Rattle.std.specs.Prelude.{flat_map}
 use Rattle.std.specs.List.{list_any}
 use Rattle.std.proofs.lemmas.List.{length-append}
-use Rattle.ir_run.specs.Node.{Node, Const, Cell}
+use Rattle.ir_run.specs.Node.{Const, Cell}
 use Rattle.ir_run.specs.Entry.{Entry, Branch, Mark, Halt}
 use Rattle.ir_run.specs.Entry as entry
 use Rattle.ir_core.specs.declared.relation.Rel.TheVariants as rel
 use Rattle.c_tree.specs.Program.{Term, Terms, Number, Scalar, Element, Input, Call, Unary, Shifted, Arithmetic, Compare, Not, AndAlso, OrElse, NoMore, More, Command, Skip, Seq, Turn, Set, Store, Change, Print, Take, Invoke, If, IfElse, While, Do, For, Break, Continue, Return, Function, Program}
-use Rattle.c_tree.specs.Code.{Aim, Value, When, Unless, Layout, Frame, Piece, used, scalar_read, is_saved, cell_of, is_below_length, passed, piece, passing}
+use Rattle.c_tree.specs.Code.{Aim, Value, When, Unless, Layout, Piece, used, scalar_read, is_saved, cell_of, is_below_length, passed, piece, passing}
 use Rattle.c_tree.specs.Lowered.{Leaving, Halts, Returns, leave, leave_with, Ends, statements, condition_steps, return_steps, end_steps, function_steps, main_steps, frames, other_steps, goes_to, trap_label, all_steps, trap_steps, program_entries, returned_label}
 use Rattle.c_tree.specs.Lowered as lowered
 use Rattle.c_counted.specs.Counted.{calls, arguments_calls, option_calls, command_calls}

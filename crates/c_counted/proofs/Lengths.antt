@@ -1,5 +1,5 @@
 -- The lengths of a program's arrays are those of its variables, and an array that is seen has one of them.
-use Rattle.std.proofs.Common.{◌≡◌, refl, sym, ap, ap₂, ◌∙◌, ℕ, zero, suc, ◌+◌, ◌≤◌, max, nat_eq, ℤ, pos, Bool, true, false, List, [], ◌∷◌, ◌++◌, map, length, Option, Some, None, arith, if◌then◌else◌}
+use Rattle.std.proofs.Common.{◌≡◌, refl, sym, ap, ap₂, ◌∙◌, ℕ, ◌+◌, ◌≤◌, nat_eq, ℤ, pos, Bool, true, false, List, [], ◌∷◌, ◌++◌, map, length, Option, Some, None, arith, if◌then◌else◌}
 use Rattle.std.proofs.lemmas.List.{length-map, map-append}
 use Rattle.ir_core.specs.Operator.{wrap}
 use Rattle.c_lowered.specs.Sound.{shape_at, IsArray, world}
@@ -10,7 +10,7 @@ use Rattle.c_tree.specs.Lowered.{arrays_among, arrays_of_functions, arrays_of_ma
 use Rattle.c_tree.specs.Lowered as lowered
 use Rattle.c_tree.specs.Meaning.{global_cells}
 use Rattle.c_counted.specs.Total.{array_lengths, functions_lengths, main_lengths, program_lengths}
-use Rattle.c_counted.proofs.Weights.{greatest, greatest_append, worth}
+use Rattle.c_counted.proofs.Weights.{greatest, worth}
 
 -- ---- the list of arrays
 

@@ -1,10 +1,12 @@
 mod Cells
 mod Calls
 mod Nodes
-mod Wrapping
+pub mod Wrapping
 mod Weights
 mod Numbers
 pub mod Members
+mod Tally
 mod Lengths
 mod Programs
-mod Same
+pub mod Small
+pub mod Same

@@ -1,8 +1,7 @@
 -- The numbers of a list in rising order, each once, depend on its members alone, whatever their order there and however often they stand there.
-use Rattle.std.proofs.Common.{◌≡◌, refl, sym, ap, ap₂, subst, ◌∙◌, ◌⊎◌, inl, inr, ⊎_elim, ℕ, zero, suc, ◌+◌, ◌≤◌, max, ℤ, ◌<ℤ◌, int_lt, Bool, true, false, List, [], ◌∷◌, length, arith, if◌then◌else◌}
+use Rattle.std.proofs.Common.{◌≡◌, refl, sym, ap, ap₂, subst, ◌∙◌, ◌⊎◌, inl, inr, ⊎_elim, ◌+◌, ℤ, ◌<ℤ◌, int_lt, Bool, true, false, List, [], ◌∷◌, length, arith, if◌then◌else◌}
 use Rattle.std.proofs.lemmas.Int.{ints}
 use Rattle.c_tree.specs.Lowered.{inserted, in_order}
-use Rattle.c_counted.proofs.Weights.{greatest}
 
 abbrev pub Among : List ℤ → ℤ → Type 0
 Among [] x = ⊥
@@ -19,16 +18,16 @@ Rises (x ∷ xs) = ((z : ℤ) → Among xs z → x <ℤ z) × Rises xs
 
 -- ---- tests
 
-less : (x y : ℤ) → int_lt x y ≡ true → x <ℤ y
+pub less : (x y : ℤ) → int_lt x y ≡ true → x <ℤ y
 less x y h = omega (arith, ints, h)
 
-alike : (x y : ℤ) → int_lt x y ≡ false → int_lt y x ≡ false → x ≡ y
+pub alike : (x y : ℤ) → int_lt x y ≡ false → int_lt y x ≡ false → x ≡ y
 alike x y h g = omega (arith, ints, h, g)
 
 less_trans : (x y z : ℤ) → x <ℤ y → y <ℤ z → x <ℤ z
 less_trans x y z h g = omega (arith, ints, h, g)
 
-never : (x y : ℤ) → x <ℤ y → y <ℤ x → ⊥
+pub never : (x y : ℤ) → x <ℤ y → y <ℤ x → ⊥
 never x y h g = omega (arith, ints, h, g)
 
 not_itself : (x y : ℤ) → x <ℤ y → y ≡ x → ⊥
@@ -142,40 +141,6 @@ pub all_counted : (xs : List ℤ) → AllDiffer xs → length (in_order xs) ≡ 
 all_counted [] d = refl
 all_counted (x ∷ xs) d = let rest = all_counted xs d.1 in let one = new_number x xs d.0 in omega (arith, rest, one)
 
--- ---- members by weights
-
--- 1 for a number itself, and 0 for others
-abbrev pub tally : ℤ → ℤ → ℕ
-tally z y = if int_lt z y then 0 else if int_lt y z then 0 else 1
-
-tally_self : (z : ℤ) → tally z z ≡ 1
-tally_self z = by (int_lt z z) refl
-  where
-    one : ℕ
-    one = 1
-
-    by : (b : Bool) → int_lt z z ≡ b → (if b then 0 else if b then 0 else one) ≡ one
-    by true h = absurd (never z z (less z z h) (less z z h))
-    by false h = refl
-
-tally_same : (z y : ℤ) → 1 ≤ tally z y → y ≡ z
-tally_same z y = by (int_lt z y) (int_lt y z) refl refl
-  where
-    by : (b c : Bool) → int_lt z y ≡ b → int_lt y z ≡ c → 1 ≤ (if b then 0 else if c then 0 else 1) → y ≡ z
-    by true c h g some = absurd (omega (arith, some))
-    by false true h g some = absurd (omega (arith, some))
-    by false false h g some = alike y z g h
-
-pub tallied : (z : ℤ) (xs : List ℤ) → Among xs z → 1 ≤ greatest (tally z) xs
-tallied z [] h = absurd h
-tallied z (x ∷ xs) h = ⊎_elim
-    (λ e. let one : tally z x ≡ 1 = ap (tally z) e ∙ tally_self z in omega (arith, one))
-    (λ i. let rest = tallied z xs i in omega (arith, rest)) h
-
-pub found : (z : ℤ) (xs : List ℤ) → 1 ≤ greatest (tally z) xs → Among xs z
-found z [] h = absurd (omega (arith, h))
-found z (x ∷ xs) h = by (tally z x) refl (found z xs)
-  where
-    by : (m : ℕ) → tally z x ≡ m → (1 ≤ greatest (tally z) xs → Among xs z) → Among (x ∷ xs) z
-    by zero is rest = inr (rest (omega (arith, is, h)))
-    by (suc m) is rest = inl (tally_same z x (omega (arith, is)))
+-- so numbers that all differ are as many as the different ones of any list with the same members
+pub as_many : (xs ys : List ℤ) → AllDiffer xs → Within xs ys → Within ys xs → length (in_order ys) ≡ length xs
+as_many xs ys d f g = same_members ys xs g f ∙ all_counted xs d

@@ -1,16 +1,15 @@
 -- The largest statement of a command below its root has as many nodes as are counted.
-use Rattle.std.proofs.Common.{◌≡◌, refl, ap, ap₂, ◌∙◌, ℕ, zero, suc, ◌+◌, ◌-◌, ◌^◌, ◌≤◌, max, nat_lt, pos, Bool, true, false, ◌||◌, List, [], ◌∷◌, ◌++◌, Option, Some, None, arith, if◌then◌else◌}
+use Rattle.std.proofs.Common.{◌≡◌, refl, ap, ap₂, ◌∙◌, ℕ, zero, suc, ◌+◌, ◌-◌, ◌^◌, ◌≤◌, max, nat_lt, pos, Bool, true, false, List, [], ◌∷◌, ◌++◌, Option, Some, None, arith, if◌then◌else◌}
 use Rattle.std.specs.List.{list_any}
-use Rattle.ir_run.specs.Node.{Node, Const, Cell}
+use Rattle.ir_run.specs.Node.{Const, Cell}
 use Rattle.ir_run.specs.Entry.{Entry, Branch, Mark, Halt}
-use Rattle.ir_run.specs.Entry as entry
 use Rattle.ir_core.specs.declared.relation.Rel.TheVariants as rel
 use Rattle.c_tree.specs.Program.{Term, Terms, Number, Scalar, Element, Input, Call, Unary, Shifted, Arithmetic, Compare, Not, AndAlso, OrElse, NoMore, More, Command, Skip, Seq, Turn, Set, Store, Change, Print, Take, Invoke, If, IfElse, While, Do, For, Break, Continue, Return, Function, Program}
 use Rattle.c_tree.specs.Code.{Aim, Value, When, Unless, side, is_value, one_if, Layout, Piece, used, scalar_read, is_saved, cell_of, is_below_length, passed, frame_of, piece, passing}
-use Rattle.c_tree.specs.Lowered.{Leaving, Halts, Returns, leave, leave_with, Ends, statements, condition_steps, return_steps, end_steps, function_steps, main_steps, frames, other_steps, goes_to, trap_label, all_steps, trap_steps, program_entries}
+use Rattle.c_tree.specs.Lowered.{Leaving, Halts, Returns, leave, leave_with, Ends, statements, condition_steps, return_steps, main_steps, frames, other_steps, goes_to, trap_label, all_steps, trap_steps, program_entries}
 use Rattle.ir_run.specs.Size.{nodes, nodes_of_all, trees_of, most_nodes}
 use Rattle.c_counted.specs.Counted.{left, with_use, largest, arguments_largest, condition_largest, return_largest, command_largest}
-use Rattle.c_counted.specs.Total.{end_largest, main_largest, functions_largest, program_largest}
+use Rattle.c_counted.specs.Total.{main_largest, functions_largest, program_largest}
 use Rattle.c_counted.proofs.Calls.{halts}
 
 -- the nodes of a statement below its root

@@ -1,19 +1,15 @@
 -- The constants in the statements of a command, a function and a program, by weights.
-use Rattle.std.proofs.Common.{◌≡◌, refl, sym, subst, ap, ◌∙◌, ℕ, zero, suc, ◌+◌, ◌-◌, ◌^◌, max, ℤ, pos, Bool, true, false, List, [], ◌∷◌, ◌++◌, map, Option, Some, None, slice_get, arith, if◌then◌else◌}
-use Rattle.std.specs.List.{list_any}
+use Rattle.std.proofs.Common.{◌≡◌, refl, ℕ, ℤ, pos, Bool, true, false, List, [], Option, Some, None, arith, if◌then◌else◌}
 use Rattle.ir_core.specs.Operator.{wrap}
 use Rattle.ir_run.specs.Node.{Const}
-use Rattle.ir_run.specs.Entry.{Entry, Mark, Halt}
-use Rattle.ir_run.specs.Size.{constants_of_all}
-use Rattle.c_lowered.specs.Sound.{World, IsArray, SoundTerm, SoundOption, FitsReturn, SoundCommand, SoundFunction, Sound, world}
+use Rattle.c_lowered.specs.Sound.{World, IsArray, SoundOption, FitsReturn, SoundCommand, SoundFunction}
 use Rattle.c_tree.specs.declared.meaning.Place.{Place}
-use Rattle.c_tree.specs.Program.{Term, Command, Skip, Seq, Turn, Set, Store, Change, Print, Take, Invoke, If, IfElse, While, Do, For, Break, Continue, Return, Function, Program}
-use Rattle.c_tree.specs.Code.{Aim, Unless, Layout}
-use Rattle.c_tree.specs.Lowered.{Leaving, Halts, Returns, leave, leave_with, Ends, statements, condition_steps, return_steps, end_steps, layout, function_steps, main_steps, frames, other_steps, goes_to, trap_label, all_steps, trap_steps, program_entries}
-use Rattle.c_counted.specs.Counted.{numbers, condition_numbers, return_numbers, command_numbers}
-use Rattle.c_counted.specs.Total.{main_numbers, functions_numbers, program_numbers}
+use Rattle.c_tree.specs.Program.{Term, Command, Skip, Seq, Turn, Set, Store, Change, Print, Take, Invoke, If, IfElse, While, Do, For, Break, Continue, Return, Function}
+use Rattle.c_tree.specs.Code.{Unless, Layout}
+use Rattle.c_tree.specs.Lowered.{Leaving, Halts, Returns, leave, leave_with, Ends, statements, condition_steps, return_steps, function_steps}
+use Rattle.c_counted.specs.Counted.{condition_numbers, return_numbers, command_numbers}
 use Rattle.c_counted.proofs.Calls.{halts}
-use Rattle.c_counted.proofs.Weights.{greatest, greatest_append, worth, weigh, weigh_is, both, test_weight, passed_weight, tree_weight, term_weight, arguments_weight}
+use Rattle.c_counted.proofs.Weights.{greatest, greatest_append, worth, weigh, weigh_append, both, test_weight, passed_weight, tree_weight, term_weight, arguments_weight}
 
 -- ---- commands
 
@@ -28,9 +24,9 @@ module _ (w : ℤ → ℕ) (t : Layout) (zero_light : w (pos 0) ≡ 0) (one_ligh
 
   return_weight : (e : Option Term) (s : FitsReturn at e) (leaving : Leaving) (k l : ℕ) → weigh w (return_steps t leaving k l e) ≡ heaviest (return_numbers (halts leaving) e)
   return_weight None s leaving k l = leave_weight leaving
-  return_weight (Some e) s Halts k l = simp (greatest_append, term_weight w t zero_light one_light at arrays e s.1) (omega arith)
+  return_weight (Some e) s Halts k l = simp (weigh_append, term_weight w t zero_light one_light at arrays e s.1) (omega arith)
   return_weight (Some e) s (Returns result ret) k l =
-      simp (greatest_append, term_weight w t zero_light one_light at arrays e s.1, tree_weight w t zero_light one_light e)
+      simp (weigh_append, term_weight w t zero_light one_light at arrays e s.1, tree_weight w t zero_light one_light e)
       (omega (arith, both (worth w t.bits) e))
 
   condition_weight : (e : Option Term) (s : SoundOption at e) (k l label : ℕ) → weigh w (condition_steps t k l (Unless label) e) ≡ heaviest (condition_numbers e)
@@ -40,34 +36,34 @@ module _ (w : ℤ → ℕ) (t : Layout) (zero_light : w (pos 0) ≡ 0) (one_ligh
   pub command_weight : (c : Command) (paid looped : Bool) (s : SoundCommand at paid looped c) (leaving : Leaving) (ends : Ends) (k l : ℕ) → weigh w (statements t leaving ends k l c) ≡ heaviest (command_numbers (halts leaving) c)
   command_weight Skip paid looped s leaving ends k l = refl
   command_weight (Seq x y) paid looped s leaving ends k l =
-      simp (greatest_append, command_weight x paid looped s.0, command_weight y paid looped s.1) refl
+      simp (weigh_append, greatest_append, command_weight x paid looped s.0, command_weight y paid looped s.1) refl
   command_weight (Turn x) paid looped s leaving ends k l = command_weight x true looped s leaving ends k l
   command_weight (Set p e) paid looped s leaving ends k l =
-      simp (greatest_append, term_weight w t zero_light one_light at arrays e s.2, tree_weight w t zero_light one_light e)
+      simp (weigh_append, term_weight w t zero_light one_light at arrays e s.2, tree_weight w t zero_light one_light e)
       (omega (arith, both (worth w t.bits) e))
   command_weight (Store p n i e) paid looped s leaving ends k l =
-      simp (greatest_append, term_weight w t zero_light one_light at arrays i s.2, term_weight w t zero_light one_light at arrays e s.3, tree_weight w t zero_light one_light i, tree_weight w t zero_light one_light e, test_weight w t zero_light one_light n (arrays p n s.1))
+      simp (weigh_append, greatest_append, term_weight w t zero_light one_light at arrays i s.2, term_weight w t zero_light one_light at arrays e s.3, tree_weight w t zero_light one_light i, tree_weight w t zero_light one_light e, test_weight w t zero_light one_light n (arrays p n s.1))
       (omega (arith, zero_light, both (worth w t.bits) i, both (worth w t.bits) e))
   command_weight (Change p n i op e) paid looped s leaving ends k l =
-      simp (greatest_append, term_weight w t zero_light one_light at arrays i s.2, term_weight w t zero_light one_light at arrays e s.3, tree_weight w t zero_light one_light i, tree_weight w t zero_light one_light e, test_weight w t zero_light one_light n (arrays p n s.1))
+      simp (weigh_append, greatest_append, term_weight w t zero_light one_light at arrays i s.2, term_weight w t zero_light one_light at arrays e s.3, tree_weight w t zero_light one_light i, tree_weight w t zero_light one_light e, test_weight w t zero_light one_light n (arrays p n s.1))
       (omega (arith, zero_light, both (worth w t.bits) i, both (worth w t.bits) e))
   command_weight (Print e) paid looped s leaving ends k l =
-      simp (greatest_append, term_weight w t zero_light one_light at arrays e s.1, tree_weight w t zero_light one_light e)
+      simp (weigh_append, term_weight w t zero_light one_light at arrays e s.1, tree_weight w t zero_light one_light e)
       (omega (arith, both (worth w t.bits) e))
   command_weight Take paid looped s leaving ends k l = refl
   command_weight (Invoke f xs) paid looped s leaving ends k l =
-      simp (greatest_append, arguments_weight w t zero_light one_light at arrays xs s.2, passed_weight w t zero_light one_light) (omega arith)
+      simp (weigh_append, arguments_weight w t zero_light one_light at arrays xs s.2, passed_weight w t zero_light one_light) (omega arith)
   command_weight (If e x) paid looped s leaving ends k l =
-      simp (greatest_append, term_weight w t zero_light one_light at arrays e s.1, command_weight x true looped s.2) (omega arith)
+      simp (weigh_append, greatest_append, term_weight w t zero_light one_light at arrays e s.1, command_weight x true looped s.2) (omega arith)
   command_weight (IfElse e x y) paid looped s leaving ends k l =
-      simp (greatest_append, term_weight w t zero_light one_light at arrays e s.1, command_weight x true looped s.2, command_weight y true looped s.3)
+      simp (weigh_append, greatest_append, term_weight w t zero_light one_light at arrays e s.1, command_weight x true looped s.2, command_weight y true looped s.3)
       (omega arith)
   command_weight (While e x) paid looped s leaving ends k l =
-      simp (greatest_append, term_weight w t zero_light one_light at arrays e s.1, command_weight x true true s.2) (omega arith)
+      simp (weigh_append, greatest_append, term_weight w t zero_light one_light at arrays e s.1, command_weight x true true s.2) (omega arith)
   command_weight (Do x e) paid looped s leaving ends k l =
-      simp (greatest_append, term_weight w t zero_light one_light at arrays e s.1, command_weight x true true s.2) (omega arith)
+      simp (weigh_append, greatest_append, term_weight w t zero_light one_light at arrays e s.1, command_weight x true true s.2) (omega arith)
   command_weight (For e step x) paid looped s leaving ends k l =
-      simp (greatest_append, condition_weight e s.1, command_weight step true false s.2, command_weight x true true s.3) (omega arith)
+      simp (weigh_append, greatest_append, condition_weight e s.1, command_weight step true false s.2, command_weight x true true s.3) (omega arith)
   command_weight Break paid looped s leaving ends k l = refl
   command_weight Continue paid looped s leaving ends k l = refl
   command_weight (Return e) paid looped s leaving ends k l = return_weight e s.1 leaving k l
@@ -82,4 +78,4 @@ module _ (w : ℤ → ℕ) (t : Layout) (zero_light : w (pos 0) ≡ 0) (one_ligh
 
   pub function_weight : (f : Function) (s : SoundFunction at f) (leaving : Leaving) (k label : ℕ) → weigh w (function_steps t leaving f k label) ≡ heaviest (command_numbers (halts leaving) f.body)
   function_weight f s leaving k label =
-      simp (greatest_append, command_weight f.body false false s.body, end_weight f.returns f.gives leaving) (omega arith)
+      simp (weigh_append, command_weight f.body false false s.body, end_weight f.returns f.gives leaving) (omega arith)

@@ -1,7 +1,7 @@
 -- The constants in the statements of a program, by weights.
-use Rattle.std.proofs.Common.{◌≡◌, refl, sym, subst, ap₂, ◌∙◌, ℕ, zero, suc, ◌+◌, max, ℤ, pos, Bool, true, false, List, [], ◌∷◌, ◌++◌, map, Option, Some, None, slice_get, arith, if◌then◌else◌}
+use Rattle.std.proofs.Common.{◌≡◌, refl, sym, subst, ap₂, ◌∙◌, ℕ, suc, ◌+◌, max, ℤ, pos, Bool, true, false, List, [], ◌∷◌, ◌++◌, map, Some, slice_get, arith, if◌then◌else◌}
 use Rattle.std.specs.List.{list_any}
-use Rattle.ir_run.specs.Entry.{Entry, Mark, Halt}
+use Rattle.ir_run.specs.Entry.{Mark, Halt}
 use Rattle.ir_run.specs.Size.{constants_of_all}
 use Rattle.c_lowered.specs.Sound.{SoundFunction, Sound, world}
 use Rattle.c_tree.specs.Program.{sizes, Function, Program}
@@ -53,10 +53,10 @@ program_weight w p n s zero_light one_light light =
     let others_light : greatest (worth w n) (functions_lengths p.functions) ≡ 0 = omega (arith, light, first, second) in
     let own_light : greatest (worth w n) (array_lengths s.main.variables) ≡ 0 = subst (λ m. greatest (worth w n) (main_lengths m) ≡ 0) s.main_is main_light in
     let main : weigh w (main_steps p n p.main) ≡ greatest (worth w n) (main_numbers p.main) =
-      subst (λ m. weigh w (main_steps p n m) ≡ greatest (worth w n) (main_numbers m)) (sym s.main_is)
-      (main_weight w zero_light one_light p n globals_light s.rank s.main s.top s.main_sound own_light) in
+    subst (λ m. weigh w (main_steps p n m) ≡ greatest (worth w n) (main_numbers m)) (sym s.main_is)
+    (main_weight w zero_light one_light p n globals_light s.rank s.main s.top s.main_sound own_light) in
     let others : weigh w (other_steps p n p.functions (program_frames p)) ≡ greatest (worth w n) (functions_numbers p.functions) =
-      others_weight w zero_light one_light p n globals_light s.rank p.functions (λ g f is. (s.rank g, s.sound g f is)) others_light _ _ in
+    others_weight w zero_light one_light p n globals_light s.rank p.functions (λ g f is. (s.rank g, s.sound g f is)) others_light _ _ in
     let all = weigh_append w (all_steps p n) (trap_steps p n) in
     let steps = weigh_append w (main_steps p n p.main) (other_steps p n p.functions (program_frames p)) in
     let numbers = greatest_append (worth w n) (main_numbers p.main) (functions_numbers p.functions) in

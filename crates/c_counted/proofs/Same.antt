@@ -1,24 +1,27 @@
 -- What is counted on terms and commands is what is counted of the statements.
-use Rattle.std.proofs.Common.{◌≡◌, refl, sym, ap, ap₂, ◌∙◌, ℕ, zero, suc, ◌+◌, ◌≤◌, max, ℤ, pos, negsuc, List, [], ◌∷◌, ◌++◌, map, length, arith}
+use Rattle.std.proofs.Common.{◌≡◌, refl, sym, ap, ◌∙◌, ℕ, zero, suc, ◌≤◌, ℤ, pos, negsuc, List, ◌∷◌, ◌++◌, map, length, arith}
 use Rattle.std.proofs.lemmas.List.{map-append}
 use Rattle.ir_core.specs.Operator.{wrap}
 use Rattle.ir_run.specs.Size.{constants_of_all}
 use Rattle.c_lowered.specs.Sound.{Sound}
 use Rattle.c_tree.specs.Program.{Program}
-use Rattle.c_tree.specs.Lowered.{in_order, constants, arrays, return_labels, program_entries}
+use Rattle.c_tree.specs.Lowered.{in_order, constants, program_entries}
 use Rattle.c_tree.specs.Counts.{data_of}
 use Rattle.c_counted.specs.Total.{program_lengths, program_numbers, gathered, counted}
+use Rattle.c_counted.proofs.Small.{numbers_unwrapped}
 use Rattle.c_counted.proofs.Calls.{calls_are_counted}
 use Rattle.c_counted.proofs.Nodes.{largest_is_counted}
 use Rattle.c_counted.proofs.Lengths.{lengths_made, arrays_counted}
-use Rattle.c_counted.proofs.Weights.{greatest, greatest_append, greatest_map, worth}
+use Rattle.c_counted.proofs.Weights.{greatest, greatest_append, greatest_map}
 use Rattle.c_counted.proofs.Programs.{program_weight}
-use Rattle.c_counted.proofs.Members.{Among, Within, same_in_order, tally, tallied, found}
+use Rattle.c_counted.proofs.Members.{Within, same_in_order}
+use Rattle.c_counted.proofs.Tally.{tally, tallied, found}
 
 -- the constants that always count
-abbrev always : Program → ℕ → List ℤ
+abbrev pub always : Program → ℕ → List ℤ
 always p n = negsuc 0 ∷ pos 0 ∷ pos 1 ∷ map (λ z. wrap n (pos z)) (program_lengths p)
 
+-- the numbers of the text that stand in statements
 abbrev texts : Program → ℕ → List ℤ
 texts p n = map (λ z. wrap n (pos z)) (program_numbers p)
 
@@ -53,6 +56,11 @@ constants_are_gathered p n s =
     (within (always p n) (texts p n) (constants_of_all (program_entries p n)) (λ z h. sym (alike p n s z h)))
     (within (always p n) (constants_of_all (program_entries p n)) (texts p n) (alike p n s))
     ∙ sym (constants_are p n)
+
+-- the same where the numbers of the text, which n bits hold, stand there without being wrapped
+pub constants_are_gathered_unwrapped : (p : Program) (n : ℕ) → Sound p n → in_order (always p n ++ map pos (program_numbers p)) ≡ constants p n
+constants_are_gathered_unwrapped p n s =
+    ap (λ xs. in_order (always p n ++ xs)) (sym (numbers_unwrapped p n s)) ∙ sym (ap in_order (gathered_is p n)) ∙ constants_are_gathered p n s
 
 -- the cells are as many as are counted of the statements
 pub counted_is : (p : Program) (n : ℕ) → Sound p n → counted p n ≡ data_of p n

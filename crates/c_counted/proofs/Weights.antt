@@ -1,6 +1,6 @@
 -- The constants in the statements of a term are those that the table brings in and the numbers of the term's text. Shown by weights: where the
 -- table's own constants and the lengths of arrays weigh nothing, the heaviest constant of the statements weighs as much as the heaviest number.
-use Rattle.std.proofs.Common.{◌≡◌, refl, sym, ap, ap₂, ◌∙◌, ℕ, zero, suc, ◌+◌, ◌-◌, ◌^◌, max, nat_lt, ltb-true, ℤ, pos, Bool, true, false, ◌||◌, List, [], ◌∷◌, ◌++◌, map, flat_map, arith, if◌then◌else◌}
+use Rattle.std.proofs.Common.{◌≡◌, refl, sym, ap, ap₂, ◌∙◌, ℕ, zero, suc, ◌+◌, ◌-◌, ◌^◌, max, nat_lt, ltb-true, ℤ, pos, Bool, true, false, List, [], ◌∷◌, ◌++◌, map, flat_map, arith, if◌then◌else◌}
 use Rattle.std.proofs.lemmas.Grind.{flat_map-append}
 use Rattle.ir_core.specs.Operator.{wrap}
 use Rattle.ir_core.specs.declared.relation.Rel.TheVariants as rel

@@ -1,5 +1,5 @@
 -- The cells of a program's lowering, counted on its terms and commands alone.
-use Rattle.std.specs.Prelude.{ℕ, ◌+◌, max, ℤ, pos, negsuc, Bool, true, false, List, [], ◌∷◌, ◌++◌, map, length, filter, Option, Some, None, if◌then◌else◌}
+use Rattle.std.specs.Prelude.{ℕ, ◌+◌, max, ℤ, pos, negsuc, true, false, List, [], ◌∷◌, ◌++◌, map, length, filter, Option, Some, None, if◌then◌else◌}
 use Rattle.ir_core.specs.Operator.{wrap}
 use Rattle.c_tree.specs.Program.{Shape, Function, Program}
 use Rattle.c_tree.specs.Meaning.{global_cells}
