@@ -2,7 +2,6 @@ pub mod WalkLaws
 pub mod Counts
 pub mod Powers
 pub mod Initials
-pub mod Behind
 pub mod Firsts
 pub mod Judging
 pub mod OneFault

@@ -30,11 +30,6 @@ loop_calls g0 g1 fx xs i x c0 c1 whole step lt is before after =
     let split : c0 ++ g0 (x ∷ drop (suc i) xs) ≡ c0 ++ (fx ++ g1 (drop (suc i) xs)) = ap (λ y. c0 ++ y) (step (drop (suc i) xs)) in
     rw (after, add-one) (append_assoc c0 fx (g1 (drop (suc i) xs)) ∙ sym split ∙ here)
 
-pub loop_names : {A : Type 0} (g0 g1 : List A → Names) (xs : List A) (i : ℕ) (x : A) (whole : Names) → ((ys : List A) → g0 (x ∷ ys) ≡ g1 ys) → i < length xs → x ≡ get_or xs i x → g0 (drop i xs) ≡ whole → g1 (drop (i + 1) xs) ≡ whole
-loop_names g0 g1 xs i x whole step lt is before =
-    let here : g0 (x ∷ drop (suc i) xs) ≡ whole = subst (λ ys. g0 ys ≡ whole) (drop-cons xs i x lt ∙ ap (λ y. y ∷ drop (suc i) xs) (sym is)) before in
-    rw (add-one) (sym (step (drop (suc i) xs)) ∙ here)
-
 -- a call with arguments, piece by piece
 pub called_found : (n : ℕ) (s : Names) (name : Name) (x : Formula) (xs : Further) (used : Bool) (k : ℕ) (w0 w1 w2 : Found) → k ≡ further_count xs + 1 → w1 ≡ noted w0 (call_faults (callee s name.text) k used name.at) → w2 ≡ noted w1 (formula_faults n s x) → noted w2 (further_faults n s xs) ≡ noted w0 (call_faults (callee s name.text) (further_count xs + 1) used name.at ++ formula_faults n s x ++ further_faults n s xs)
 called_found n s name x xs used k w0 w1 w2 a b c = rw (c, b, a, noted_append, noted_append) refl
@@ -42,22 +37,6 @@ called_found n s name x xs used k w0 w1 w2 a b c = rw (c, b, a, noted_append, no
 pub called_calls : (s : Names) (name : Name) (x : Formula) (xs : Further) (c0 c1 c2 : List ℕ) → c1 ≡ c0 ++ callee_of (callee s name.text) → c2 ≡ c1 ++ formula_callees s x → c2 ++ further_callees s xs ≡ c0 ++ (callee_of (callee s name.text) ++ formula_callees s x ++ further_callees s xs)
 called_calls s name x xs c0 c1 c2 a b = rw (b, a) (simp append_assoc refl)
 
--- what holds in any case holds where there is no error
-pub ok_of : {T E : Type 0} (r : Result T E) (P : Type 0) → P → OnOk r P
-ok_of (Ok x) P p = p
-ok_of (Err e) P p = tt
-
 -- three things, one after the other
 pub three_found : (w0 w1 w2 w3 : Found) (a b c : List Fault) → w1 ≡ noted w0 a → w2 ≡ noted w1 b → w3 ≡ noted w2 c → w3 ≡ noted w0 (a ++ b ++ c)
 three_found w0 w1 w2 w3 a b c h1 h2 h3 = rw (h3, h2, h1, noted_append, noted_append) refl
-
--- what follows where there is no error
-pub ok_map : {T E : Type 0} (r : Result T E) (P Q : Type 0) → (P → Q) → OnOk r P → OnOk r Q
-ok_map (Ok x) P Q f p = f p
-ok_map (Err e) P Q f p = tt
-
--- one thing of a list more, for any function of the list
-pub loop_any : {A B : Type 0} (g0 g1 : List A → B) (xs : List A) (i : ℕ) (x : A) (whole : B) → ((ys : List A) → g0 (x ∷ ys) ≡ g1 ys) → i < length xs → x ≡ get_or xs i x → g0 (drop i xs) ≡ whole → g1 (drop (i + 1) xs) ≡ whole
-loop_any g0 g1 xs i x whole step lt is before =
-    let here : g0 (x ∷ drop (suc i) xs) ≡ whole = subst (λ ys. g0 ys ≡ whole) (drop-cons xs i x lt ∙ ap (λ y. y ∷ drop (suc i) xs) (sym is)) before in
-    rw (add-one) (sym (step (drop (suc i) xs)) ∙ here)

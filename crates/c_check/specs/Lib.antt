@@ -1,3 +1,3 @@
 pub mod Note
-pub mod Walk
+pub mod Within
 pub mod First

@@ -7,7 +7,7 @@ ghost use Rattle.c_tree.specs.Faults.{declared_faults, variable_faults, variable
 ghost use Rattle.c_tree.specs.Recursion.{variable_callees, variables_callees, opening_callees};
 ghost use Rattle.c_names.specs.Shown.{names};
 ghost use Rattle.c_check.specs.Note.{noted};
-ghost use Rattle.c_check.specs.Walk.{listed, starts_of, further_gvars, further_params};
+ghost use Rattle.c_walk.specs.Walk.{listed, starts_of, further_gvars, further_params};
 
 use crate::expression::{expression, simple_statement};
 use crate::note::{Notes, place_of};

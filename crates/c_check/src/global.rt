@@ -8,7 +8,8 @@ ghost use Rattle.c_tree.specs.Faults.{giving, global_faults, faults};
 ghost use Rattle.c_tree.specs.Recursion.{graph, calls_of};
 ghost use Rattle.c_names.specs.Shown.{names};
 ghost use Rattle.c_check.specs.Note.{noted, nothing};
-ghost use Rattle.c_check.specs.Walk.{giving_of, defined, row_of};
+ghost use Rattle.c_walk.specs.Walk.{defined, row_of};
+ghost use Rattle.c_check.specs.Within.{giving_of};
 ghost use Rattle.c_tree.specs.declared.program.Global.TheVariants as global;
 
 use crate::declaration::{all_parameters, declared, globals};

@@ -7,7 +7,8 @@ ghost use Rattle.c_tree.specs.Faults.{statement_faults, body_faults, return_faul
 ghost use Rattle.c_tree.specs.Recursion.{statement_callees, body_callees};
 ghost use Rattle.c_names.specs.Shown.{names};
 ghost use Rattle.c_check.specs.Note.{noted};
-ghost use Rattle.c_check.specs.Walk.{within, behind_body, giving_of};
+ghost use Rattle.c_walk.specs.Walk.{behind_body};
+ghost use Rattle.c_check.specs.Within.{within, giving_of};
 
 use crate::declaration::{first_part, locals};
 use crate::expression::{expression, last_part, optional_expression, simple_statement};
@@ -102,7 +103,7 @@ fn one_part(
 
 /// Notes the faults and the calls of a statement. It calls itself as deep as statements stand in statements.
 #[cycle(statements)]
-#[tactic(auto, using(c_tree::proofs::StatementLaws::statement_laws, crate::proofs::WalkLaws::walk_laws, crate::proofs::Behind::behind_laws))]
+#[tactic(auto, using(c_tree::proofs::StatementLaws::statement_laws, crate::proofs::WalkLaws::walk_laws, c_walk::proofs::Behind::behind_laws))]
 fn one_statement(
     scopes: &mut Scopes,
     alloc: Global,

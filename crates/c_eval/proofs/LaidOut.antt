@@ -15,7 +15,8 @@ use Rattle.c_machine.specs.declared.code.Entry.{Entry}
 use Rattle.c_frames.specs.Frames.{Work, Run}
 use Rattle.c_frames.specs.Steps.{begin}
 use Rattle.c_machine.specs.declared.task.Pending.{Pending}
-use Rattle.c_machine.specs.Stands.{command_at, frames_of, work_of, StandsFor, IsCode}
+use Rattle.c_machine.specs.Stands.{frames_of, work_of, StandsFor, IsCode}
+use Rattle.c_flat.specs.Sorts.{command_at}
 use Rattle.std.proofs.lemmas.Grind.{flat_map-append}
 use Rattle.c_tree.specs.declared.program.Global.{Global}
 use Rattle.c_tree.specs.declared.program.Global.TheVariants as global

@@ -12,8 +12,8 @@ use Rattle.c_tree.specs.Names as names
 use Rattle.c_tree.specs.Program.{sizes}
 use Rattle.c_tree.specs.Resolve.{resolved_functions, commands, body_of}
 use Rattle.c_tree.specs.Statement.{Body, block}
-use Rattle.c_check.specs.Walk.{behind_body, defined}
-use Rattle.c_check.proofs.Behind.{kept_body, sizes-append}
+use Rattle.c_walk.specs.Walk.{behind_body, defined}
+use Rattle.c_walk.proofs.Behind.{kept_body, sizes-append}
 use Rattle.c_flat.specs.declared.node.Node.{Node}
 use Rattle.c_flat.specs.declared.function.Body as function
 use Rattle.c_flat.specs.Written.{Written, OfCommand, written, AreBelow, Grew}

@@ -12,7 +12,7 @@ use Rattle.c_tree.specs.Statement.{variable, declaration, statement, Body, body,
 use Rattle.c_tree.specs.Names.{Names, behind_variable, behind_variables, behind_statement, declared_variables}
 use Rattle.c_tree.specs.Program.{Term, Command, Turn, Skip, Seq, For}
 use Rattle.c_tree.specs.Resolve as resolve
-use Rattle.c_check.specs.Walk.{listed, behind_body}
+use Rattle.c_walk.specs.Walk.{listed, behind_body}
 use Rattle.c_flat.specs.declared.node.Node.{Node}
 use Rattle.c_flat.specs.declared.chain.Chain.TheVariants as chain
 use Rattle.c_flat.specs.Written.{Written, OfCommand, as_term, as_command, one, written, Grew, Extends}

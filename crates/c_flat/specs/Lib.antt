@@ -1,3 +1,4 @@
 pub mod Written
+pub mod Sorts
 pub mod Listing
 pub mod Sample

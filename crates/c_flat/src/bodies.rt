@@ -4,7 +4,7 @@ ghost use Rattle.std.specs.Prelude.{◌≡◌, [], map, IfOk, OnOk};
 ghost use Rattle.c_tree.specs.Items.{item};
 ghost use Rattle.c_tree.specs.Names.{behind_gvar, behind_gvars, gvars};
 ghost use Rattle.c_names.specs.Shown.{names};
-ghost use Rattle.c_check.specs.Walk.{further_gvars};
+ghost use Rattle.c_walk.specs.Walk.{further_gvars};
 ghost use Rattle.c_flat.specs.Written.{Falls};
 ghost use Rattle.c_flat.specs.Listing.{Standing, outlines_of};
 

@@ -9,7 +9,7 @@ ghost use Rattle.c_tree.specs.Names.{behind_statement};
 ghost use Rattle.c_tree.specs.Resolve.{term, command, commands};
 ghost use Rattle.c_tree.specs.Resolve as resolve;
 ghost use Rattle.c_names.specs.Shown.{names};
-ghost use Rattle.c_check.specs.Walk.{behind_body};
+ghost use Rattle.c_walk.specs.Walk.{behind_body};
 ghost use Rattle.c_flat.specs.Written.{Written, OfCommand, as_command, Falls, IsBelow, Grew, one, written};
 ghost use Rattle.c_flat.specs.Listing.{Conditioned, IsWithin, condition_of};
 
@@ -129,7 +129,7 @@ pub fn push_block(
 
 /// Puts the nodes of a statement behind the others. It calls itself as deep as statements stand in statements.
 #[cycle(commands)]
-#[tactic(auto, using(c_tree::proofs::StatementLaws::statement_laws, c_check::proofs::Behind::behind_laws))]
+#[tactic(auto, using(c_tree::proofs::StatementLaws::statement_laws, c_walk::proofs::Behind::behind_laws))]
 fn push_command(
     alloc: Global,
     scopes: &mut Scopes,

@@ -7,7 +7,7 @@ ghost use Rattle.c_tree.specs.Names as spec;
 ghost use Rattle.c_tree.specs.Resolve.{commands, body_of};
 ghost use Rattle.c_tree.specs.Statement.{block};
 ghost use Rattle.c_names.specs.Shown.{names};
-ghost use Rattle.c_check.specs.Walk.{defined, further_params};
+ghost use Rattle.c_walk.specs.Walk.{defined, further_params};
 ghost use Rattle.c_flat.specs.Written.{OfCommand, Falls, Grew};
 
 use crate::command::push_block;

@@ -10,6 +10,7 @@ mod function;
 mod make;
 mod node;
 mod simple;
+mod sort;
 
 pub use bodies::push_bodies;
 pub use chain::{Chain, push_list};
@@ -20,3 +21,4 @@ pub use function::{Body, push_function};
 pub use make::{called_node, element_node, scalar_node};
 pub use node::{Node, push_node};
 pub use simple::push_simple;
+pub use sort::{CommandNode, TermNode, command_node, term_node, terms_node};

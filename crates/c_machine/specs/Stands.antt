@@ -7,6 +7,7 @@ use Rattle.c_frames.specs.Frames.{Where, Loop, Frame, Work, Eval, Arguments, Giv
 use Rattle.c_frames.specs.Frames as frames
 use Rattle.c_frames.specs.Steps.{Config, Move, Goes, Stops}
 use Rattle.c_flat.specs.declared.node.Node.{Node}
+use Rattle.c_flat.specs.Sorts.{term_at, terms_at, command_at}
 use Rattle.c_flat.specs.Written.{Written, as_term, as_terms, as_command, written}
 use Rattle.c_machine.specs.declared.task.Repeat.{Repeat}
 use Rattle.c_machine.specs.declared.task.Repeat.TheVariants as repeats
@@ -18,44 +19,10 @@ use Rattle.c_machine.specs.declared.task.Task.{Task}
 use Rattle.c_machine.specs.declared.task.Task.TheVariants as tasks
 use Rattle.c_machine.specs.declared.task.Moved.{Moved}
 use Rattle.c_machine.specs.declared.task.Moved.TheVariants as moves
-use Rattle.c_machine.specs.declared.sort.TermNode.{TermNode}
-use Rattle.c_machine.specs.declared.sort.TermNode.TheVariants as term_node
-use Rattle.c_machine.specs.declared.sort.CommandNode.{CommandNode}
-use Rattle.c_machine.specs.declared.sort.CommandNode.TheVariants as command_node
 use Rattle.c_machine.specs.declared.machine.Machine.{Machine}
 use Rattle.c_machine.specs.declared.code.Code.{Code}
 use Rattle.c_machine.specs.declared.code.Entry.{Entry}
 use Rattle.c_machine.specs.Cells.{cell_number}
-
--- the expression, the arguments, the command that a node writes out
-abbrev pub term_at : List Node → ℕ → Term
-term_at ns k = as_term (written ns k)
-
-abbrev pub terms_at : List Node → ℕ → Terms
-terms_at ns k = as_terms (written ns k)
-
-abbrev pub command_at : List Node → ℕ → Command
-command_at ns k = as_command (written ns k)
-
--- what a node of an expression is, over what the earlier ones write out
-abbrev pub term_over : TermNode → (ℕ → Written) → Term
-term_over (term_node.Number z) f = program.Number z
-term_over (term_node.Scalar p) f = program.Scalar p
-term_over (term_node.Element p n i) f = program.Element p n (as_term (f i))
-term_over term_node.Input f = program.Input
-term_over (term_node.Call g xs) f = program.Call g (as_terms (f xs))
-term_over (term_node.Unary op x) f = program.Unary op (as_term (f x))
-term_over (term_node.Shifted op x k) f = program.Shifted op (as_term (f x)) k
-term_over (term_node.Arithmetic op x y) f = program.Arithmetic op (as_term (f x)) (as_term (f y))
-term_over (term_node.Compare r x y) f = program.Compare r (as_term (f x)) (as_term (f y))
-term_over (term_node.Not x) f = program.Not (as_term (f x))
-term_over (term_node.AndAlso x y) f = program.AndAlso (as_term (f x)) (as_term (f y))
-term_over (term_node.OrElse x y) f = program.OrElse (as_term (f x)) (as_term (f y))
-
--- the same of arguments: none, or one and those behind it
-abbrev pub terms_over : Option (ℕ × ℕ) → (ℕ → Written) → Terms
-terms_over None f = program.NoMore
-terms_over (Some (x, xs)) f = program.More (as_term (f x)) (as_terms (f xs))
 
 abbrev pub loop_over : Repeat → (ℕ → Written) → Loop
 loop_over (repeats.While e x) f = frames.While (as_term (f e)) (as_command (f x))
@@ -68,28 +35,6 @@ abbrev pub looping : Loop → Command
 looping (frames.While e x) = program.While e x
 looping (frames.Do x e) = program.Do x e
 looping (frames.For e st x) = program.For e st x
-
--- the same of commands
-abbrev pub command_over : CommandNode → (ℕ → Written) → Command
-command_over command_node.Skip f = program.Skip
-command_over (command_node.Seq x y) f = program.Seq (as_command (f x)) (as_command (f y))
-command_over (command_node.Turn x) f = program.Turn (as_command (f x))
-command_over (command_node.Set p e) f = program.Set p (as_term (f e))
-command_over (command_node.Store p n i e) f = program.Store p n (as_term (f i)) (as_term (f e))
-command_over (command_node.Change p n i op e) f = program.Change p n (as_term (f i)) op (as_term (f e))
-command_over (command_node.Print e) f = program.Print (as_term (f e))
-command_over command_node.Take f = program.Take
-command_over (command_node.Invoke g xs) f = program.Invoke g (as_terms (f xs))
-command_over (command_node.If e x) f = program.If (as_term (f e)) (as_command (f x))
-command_over (command_node.IfElse e x y) f = program.IfElse (as_term (f e)) (as_command (f x)) (as_command (f y))
-command_over (command_node.While e x) f = program.While (as_term (f e)) (as_command (f x))
-command_over (command_node.Do x e) f = program.Do (as_command (f x)) (as_term (f e))
-command_over (command_node.Forever st x) f = program.For None (as_command (f st)) (as_command (f x))
-command_over (command_node.For e st x) f = program.For (Some (as_term (f e))) (as_command (f st)) (as_command (f x))
-command_over command_node.Break f = program.Break
-command_over command_node.Continue f = program.Continue
-command_over command_node.Return f = program.Return None
-command_over (command_node.ReturnWith e) f = program.Return (Some (as_term (f e)))
 
 -- what waits for a number
 abbrev pub expected : List Node → Expects → Frame

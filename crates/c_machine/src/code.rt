@@ -2,10 +2,9 @@
 
 ghost use Rattle.std.specs.Prelude.{◌≡◌, slice_get, option_map};
 ghost use Rattle.c_flat.specs.Written.{Falls, one, written};
-ghost use Rattle.c_machine.specs.Stands.{term_at, terms_at, command_at, term_over, terms_over, command_over};
+ghost use Rattle.c_flat.specs.Sorts.{term_at, terms_at, command_at, term_over, terms_over, command_over};
 
-use crate::sort::{CommandNode, TermNode, command_node, term_node, terms_node};
-use c_flat::Node;
+use c_flat::{CommandNode, Node, TermNode, command_node, term_node, terms_node};
 
 /// The node of a function's body, and the first of its cells.
 ///

@@ -4,11 +4,12 @@ ghost use Rattle.std.specs.Prelude.{◌≡◌, ◌∷◌, suc, IfOk};
 ghost use Rattle.c_flat.specs.Written.{written};
 ghost use Rattle.c_frames.specs.Frames.{Again, Arguments, Calling, Drop};
 ghost use Rattle.c_frames.specs.Steps.{to, paying, step_run, step_test, step_again};
-ghost use Rattle.c_machine.specs.Stands.{Comes, terms_at, loop_over, command_over};
+ghost use Rattle.c_machine.specs.Stands.{Comes, loop_over};
+ghost use Rattle.c_flat.specs.Sorts.{terms_at, command_over};
 
 use crate::code::Code;
 use crate::machine::Machine;
-use crate::sort::CommandNode;
+use c_flat::CommandNode;
 use crate::task::{Expects, Moved, Pending, Repeat, Task};
 use nk_base::Memory;
 use nk_outside::Stop;

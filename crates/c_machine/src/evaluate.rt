@@ -7,12 +7,13 @@ ghost use Rattle.c_frames.specs.Small.{IsSmallTerm};
 ghost use Rattle.c_tree.specs.Meaning.{cell};
 ghost use Rattle.c_tree.specs.Meaning as meaning;
 ghost use Rattle.c_flat.specs.Written.{written};
-ghost use Rattle.c_machine.specs.Stands.{Comes, term_at, term_over, terms_over, expected};
+ghost use Rattle.c_machine.specs.Stands.{Comes, expected};
+ghost use Rattle.c_flat.specs.Sorts.{term_at, term_over, terms_over};
 
 use crate::code::Code;
 use crate::data::{held, scalar_cell};
 use crate::machine::Machine;
-use crate::sort::TermNode;
+use c_flat::TermNode;
 use crate::task::{Expects, Moved, Pending, Task};
 use c_tree::Place;
 use nk_base::Memory;

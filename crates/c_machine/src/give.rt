@@ -11,7 +11,8 @@ ghost use Rattle.c_frames.specs.Frames as waits;
 ghost use Rattle.c_frames.specs.Small.{IsSmallFrame, AreSmallFrames};
 ghost use Rattle.c_frames.specs.Steps.{to, either_move, step_give};
 ghost use Rattle.c_machine.specs.Cells.{cell_number};
-ghost use Rattle.c_machine.specs.Stands.{Comes, work_of, term_at, command_at, loop_over, expected, frame_of, frames_of};
+ghost use Rattle.c_machine.specs.Stands.{Comes, work_of, loop_over, expected, frame_of, frames_of};
+ghost use Rattle.c_flat.specs.Sorts.{term_at, command_at};
 ghost use Rattle.c_machine.specs.declared.code.Code.{Code};
 
 use crate::code::Code;

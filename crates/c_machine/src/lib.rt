@@ -9,7 +9,6 @@ mod give;
 mod machine;
 mod onward;
 mod pass;
-mod sort;
 mod step;
 mod task;
 

@@ -4,7 +4,8 @@ ghost use Rattle.std.specs.Prelude.{◌≡◌, ◌∷◌, reverse, IfOk};
 ghost use Rattle.c_frames.specs.Steps.{to, step_pass, step_call};
 ghost use Rattle.c_frames.specs.Frames.{Run, Pass, Called};
 ghost use Rattle.c_tree.specs.Meaning.{with_arguments};
-ghost use Rattle.c_machine.specs.Stands.{Comes, ComesBy, command_at, frame_of};
+ghost use Rattle.c_machine.specs.Stands.{Comes, ComesBy, frame_of};
+ghost use Rattle.c_flat.specs.Sorts.{command_at};
 
 use crate::code::{Code, Entry};
 use crate::data::fill;

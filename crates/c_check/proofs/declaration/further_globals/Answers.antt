@@ -2,13 +2,14 @@ use Rattle.std.proofs.Common.{refl, ◌∙◌}
 use Rattle.c_tree.specs.Names.{behind_gvar, behind_gvars}
 use Rattle.c_tree.specs.Faults.{gvars_faults}
 use Rattle.c_names.specs.Shown.{names}
-use Rattle.c_check.specs.Walk.{further_gvars}
-use Rattle.c_check.proofs.WalkLaws.{loop_found, loop_names}
+use Rattle.c_walk.specs.Walk.{further_gvars}
+use Rattle.c_check.proofs.WalkLaws.{loop_found}
+use Rattle.c_walk.proofs.Loops.{loop_any}
 use Rattle.c_check.proofs.declaration.further_globals.Goals as goal
 
 pub loop-one-preserved : goal.loop-one-preserved
 loop-one-preserved c = rw c.in_ok-global.ensures.scopes (
-  loop_names (λ ys. behind_gvars (names c.loop-one.scopes) (further_gvars ys)) (λ ys. behind_gvars (behind_gvar (names c.loop-one.scopes) c.loop-one-item.result.1) (further_gvars ys)) c.args.rest.now c.loop-one.one-index c.loop-one-item.result _ (λ ys. refl) c.loop-one-test.true c.loop-one-item.is c.loop-one.invariant.0,
+  loop_any (λ ys. behind_gvars (names c.loop-one.scopes) (further_gvars ys)) (λ ys. behind_gvars (behind_gvar (names c.loop-one.scopes) c.loop-one-item.result.1) (further_gvars ys)) c.args.rest.now c.loop-one.one-index c.loop-one-item.result _ (λ ys. refl) c.loop-one-test.true c.loop-one-item.is c.loop-one.invariant.0,
   loop_found (λ ys. gvars_faults c.args.width.bits (names c.loop-one.scopes) (further_gvars ys)) (λ ys. gvars_faults c.args.width.bits (behind_gvar (names c.loop-one.scopes) c.loop-one-item.result.1) (further_gvars ys)) _ c.args.rest.now c.loop-one.one-index c.loop-one-item.result c.loop-one.notes.found _ _ (λ ys. refl) c.loop-one-test.true c.loop-one-item.is c.loop-one.invariant.1 c.in_ok-global.ensures.found,
   c.in_ok-global.ensures.calls ∙ c.loop-one.invariant.2,
 )

@@ -3,7 +3,7 @@ use Rattle.c_tree.specs.Names.{behind_gvars}
 use Rattle.c_tree.specs.Faults.{gvars_faults}
 use Rattle.c_names.specs.Shown.{names}
 use Rattle.c_check.specs.Note.{noted}
-use Rattle.c_check.specs.Walk.{further_gvars}
+use Rattle.c_walk.specs.Walk.{further_gvars}
 use Rattle.c_check.proofs.declaration.further_globals.Given as goal
 
 abbrev pub invariant-loop-one : goal.invariant-loop-one

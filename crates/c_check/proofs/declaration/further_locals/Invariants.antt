@@ -4,7 +4,7 @@ use Rattle.c_tree.specs.Faults.{variables_faults}
 use Rattle.c_tree.specs.Recursion.{variables_callees}
 use Rattle.c_names.specs.Shown.{names}
 use Rattle.c_check.specs.Note.{noted}
-use Rattle.c_check.specs.Walk.{listed}
+use Rattle.c_walk.specs.Walk.{listed}
 use Rattle.c_check.proofs.declaration.further_locals.Given as goal
 
 abbrev pub invariant-loop-one : goal.invariant-loop-one

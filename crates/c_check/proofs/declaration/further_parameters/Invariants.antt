@@ -3,7 +3,7 @@ use Rattle.c_tree.specs.Names.{behind_parameters}
 use Rattle.c_tree.specs.Faults.{params_faults}
 use Rattle.c_names.specs.Shown.{names}
 use Rattle.c_check.specs.Note.{noted}
-use Rattle.c_check.specs.Walk.{further_params}
+use Rattle.c_walk.specs.Walk.{further_params}
 use Rattle.c_check.proofs.declaration.further_parameters.Given as goal
 
 abbrev pub invariant-loop-one : goal.invariant-loop-one

@@ -1,6 +1,6 @@
 use Rattle.std.proofs.Common.{◌≡◌, drop}
 use Rattle.c_check.specs.Note.{noted}
-use Rattle.c_check.specs.Walk.{starts_of}
+use Rattle.c_walk.specs.Walk.{starts_of}
 use Rattle.c_check.proofs.declaration.further_starts.Given as goal
 
 abbrev pub invariant-loop-z : goal.invariant-loop-z

@@ -1,7 +1,8 @@
 use Rattle.std.proofs.Common.{ap, ◌∷◌, map}
 use Rattle.c_tree.specs.Faults.{declared_faults, length_faults, initials_faults}
 use Rattle.c_names.specs.Shown.{names}
-use Rattle.c_check.proofs.WalkLaws.{three_found, ok_of}
+use Rattle.c_check.proofs.WalkLaws.{three_found}
+use Rattle.c_walk.proofs.Loops.{ok_of}
 use Rattle.c_check.proofs.declaration.global.Goals as goal
 
 pub returns-in-Some-initials-clause-found : goal.returns-in-Some-initials-clause-found

@@ -7,9 +7,9 @@ use Rattle.c_tree.specs.Recursion.{body_callees}
 use Rattle.c_tree.proofs.StatementLaws.{block_is}
 use Rattle.c_names.specs.Shown.{names, outside}
 use Rattle.c_check.specs.Note.{noted}
-use Rattle.c_check.specs.Walk.{behind_body, defined}
+use Rattle.c_walk.specs.Walk.{behind_body, defined}
 use Rattle.c_check.proofs.WalkLaws.{three_found}
-use Rattle.c_check.proofs.Behind.{behind_function}
+use Rattle.c_walk.proofs.Behind.{behind_function}
 use Rattle.c_check.proofs.global.function_of.Goals as goal
 
 pub returns-clause-scopes : goal.returns-clause-scopes

@@ -4,7 +4,8 @@ use Rattle.c_tree.specs.Names.{behind_global}
 use Rattle.c_tree.specs.Faults.{globals_faults}
 use Rattle.c_tree.specs.Recursion.{graph}
 use Rattle.c_names.specs.Shown.{names}
-use Rattle.c_check.proofs.WalkLaws.{loop_found, loop_any}
+use Rattle.c_check.proofs.WalkLaws.{loop_found}
+use Rattle.c_walk.proofs.Loops.{loop_any}
 use Rattle.c_check.proofs.global.note_all.Goals as goal
 
 pub loop-one-preserved : goal.loop-one-preserved

@@ -3,9 +3,9 @@ use Rattle.c_tree.specs.Statement.{body, statement}
 use Rattle.c_tree.specs.Names.{inner, behind_statement, statement_shapes}
 use Rattle.c_tree.proofs.StatementLaws.{block_is, statement-Block, statement-If_else}
 use Rattle.c_names.specs.Shown.{names, outside}
-use Rattle.c_check.specs.Walk.{behind_body}
-use Rattle.c_check.proofs.Behind.{behind_braces, behind_both}
-use Rattle.c_check.proofs.WalkLaws.{ok_map}
+use Rattle.c_walk.specs.Walk.{behind_body}
+use Rattle.c_walk.proofs.Behind.{behind_braces, behind_both}
+use Rattle.c_walk.proofs.Loops.{ok_map}
 use Rattle.c_check.proofs.statement.+statements.Goals as goal
 
 pub one_statement-returns-in_ok-parts_of-in-Block-clause-scopes : goal.one_statement-returns-in_ok-parts_of-in-Block-clause-scopes

@@ -4,7 +4,8 @@ use Rattle.c_tree.specs.Faults.{body_faults}
 use Rattle.c_tree.specs.Recursion.{body_callees}
 use Rattle.c_names.specs.Shown.{names}
 use Rattle.c_check.specs.Note.{noted}
-use Rattle.c_check.specs.Walk.{within, behind_body}
+use Rattle.c_walk.specs.Walk.{behind_body}
+use Rattle.c_check.specs.Within.{within}
 use Rattle.c_check.proofs.statement.+statements.Given as goal
 
 abbrev pub invariant-parts_of-loop-one : goal.invariant-parts_of-loop-one

@@ -3,7 +3,7 @@ use Rattle.c_tree.specs.Names.{before_body}
 use Rattle.c_tree.specs.Resolve.{commands, body_of}
 use Rattle.c_tree.specs.Statement.{block}
 use Rattle.c_names.specs.Shown.{names}
-use Rattle.c_check.specs.Walk.{defined}
+use Rattle.c_walk.specs.Walk.{defined}
 use Rattle.c_flat.specs.Written.{Written, OfCommand}
 use Rattle.c_flat.specs.Listing.{Outline}
 use Rattle.c_flat.proofs.AllBodies.{vars_step, function_step, standing_more, outline_in}

@@ -5,9 +5,9 @@ use Rattle.c_tree.specs.Names.{inner, behind_statement, statement_shapes, declar
 use Rattle.c_tree.specs.Resolve.{command, variables}
 use Rattle.c_tree.proofs.StatementLaws.{block_is, statement-Block, statement-If_else}
 use Rattle.c_names.specs.Shown.{names, outside}
-use Rattle.c_check.specs.Walk.{behind_body}
-use Rattle.c_check.proofs.Behind.{behind_braces, behind_both}
-use Rattle.c_check.proofs.WalkLaws.{ok_of}
+use Rattle.c_walk.specs.Walk.{behind_body}
+use Rattle.c_walk.proofs.Behind.{behind_braces, behind_both}
+use Rattle.c_walk.proofs.Loops.{ok_of}
 use Rattle.c_flat.specs.declared.chain.Chain.TheVariants as chain
 use Rattle.c_flat.specs.declared.node.Node.TheVariants as node
 use Rattle.c_flat.specs.Written.{OfCommand, as_command}

@@ -2,7 +2,7 @@ use Rattle.std.proofs.Common.{◌≡◌, drop}
 use Rattle.c_tree.specs.Statement.{body}
 use Rattle.c_tree.specs.Resolve.{commands}
 use Rattle.c_names.specs.Shown.{names}
-use Rattle.c_check.specs.Walk.{behind_body}
+use Rattle.c_walk.specs.Walk.{behind_body}
 use Rattle.c_flat.specs.declared.chain.Chain.TheVariants as chain
 use Rattle.c_flat.specs.Written.{OfCommand}
 use Rattle.c_flat.specs.Listing.{Listed}

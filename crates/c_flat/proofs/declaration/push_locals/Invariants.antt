@@ -3,7 +3,7 @@ use Rattle.c_tree.specs.Statement.{declaration}
 use Rattle.c_tree.specs.Names.{behind_variables, declared_variables}
 use Rattle.c_tree.specs.Resolve.{variables}
 use Rattle.c_names.specs.Shown.{names}
-use Rattle.c_check.specs.Walk.{listed}
+use Rattle.c_walk.specs.Walk.{listed}
 use Rattle.c_flat.specs.declared.chain.Chain.TheVariants as chain
 use Rattle.c_flat.specs.Written.{OfCommand}
 use Rattle.c_flat.specs.Listing.{Listed}

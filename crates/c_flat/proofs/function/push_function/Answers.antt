@@ -5,8 +5,8 @@ use Rattle.c_tree.specs.Program.{sizes}
 use Rattle.c_tree.specs.Resolve.{body_of, commands}
 use Rattle.c_tree.proofs.StatementLaws.{block_is}
 use Rattle.c_names.specs.Shown.{names, outside}
-use Rattle.c_check.specs.Walk.{behind_body, defined}
-use Rattle.c_check.proofs.Behind.{behind_function}
+use Rattle.c_walk.specs.Walk.{behind_body, defined}
+use Rattle.c_walk.proofs.Behind.{behind_function}
 use Rattle.c_flat.specs.Written.{OfCommand, Grew}
 use Rattle.c_flat.proofs.AllBodies.{cells_of_body}
 use Rattle.c_flat.proofs.function.push_function.Goals as goal

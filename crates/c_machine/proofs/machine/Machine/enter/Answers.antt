@@ -3,7 +3,8 @@ use Rattle.c_tree.specs.Meaning.{State}
 use Rattle.c_frames.specs.Frames.{Run, Frame, Called}
 use Rattle.c_frames.specs.Steps.{to}
 use Rattle.c_machine.specs.declared.task.Pending.TheVariants as pendings
-use Rattle.c_machine.specs.Stands.{command_at, state_of, frames_of}
+use Rattle.c_machine.specs.Stands.{state_of, frames_of}
+use Rattle.c_flat.specs.Sorts.{command_at}
 use Rattle.c_machine.proofs.Stacks.{frames_push, with_put}
 use Rattle.c_machine.proofs.machine.Machine.enter.Goals as goal
 

@@ -2,10 +2,10 @@
 
 ghost use Rattle.std.specs.Prelude.{◌≡◌, ℕ};
 ghost use Rattle.std.specs.Option.{option_map};
-ghost use Rattle.c_flat.specs.Written.{Written, as_term, as_terms, as_command, one};
-ghost use Rattle.c_machine.specs.Stands.{term_over, terms_over, command_over};
+ghost use Rattle.c_flat.specs.Written.{Written, as_term, as_terms, as_command, one, AreBelow, IsBelow};
+ghost use Rattle.c_flat.specs.Sorts.{term_over, terms_over, command_over, term_parts, terms_parts, command_parts};
 
-use c_flat::Node;
+use crate::node::Node;
 use c_tree::Place;
 use ir_core::{Arith, Prefix, Rel, Shift};
 
@@ -56,7 +56,8 @@ pub enum CommandNode {
 
 /// The node of an expression that this is; another one counts as 0.
 pub fn term_node(node: Node) -> TermNode
-    ensures { (f : ℕ → Written) → term_over result f ≡ as_term (one node f) }
+    ensures is { (f : ℕ → Written) → term_over result f ≡ as_term (one node f) }
+    ensures below { (n : ℕ) → IsBelow node n → AreBelow (term_parts result) n }
 {
     match node {
         Node::Number(z) => TermNode::Number(z),
@@ -90,7 +91,8 @@ pub fn term_node(node: Node) -> TermNode
 
 /// The first argument and those behind it, where this is a node of arguments; another one counts as none.
 pub fn terms_node(node: Node) -> Option<(usize, usize)>
-    ensures { (f : ℕ → Written) → terms_over result f ≡ as_terms (one node f) }
+    ensures is { (f : ℕ → Written) → terms_over result f ≡ as_terms (one node f) }
+    ensures below { (n : ℕ) → IsBelow node n → AreBelow (terms_parts result) n }
 {
     match node {
         Node::More(x, xs) => Some((x, xs)),
@@ -127,7 +129,8 @@ pub fn terms_node(node: Node) -> Option<(usize, usize)>
 
 /// The node of a command that this is; another one counts as nothing to do.
 pub fn command_node(node: Node) -> CommandNode
-    ensures { (f : ℕ → Written) → command_over result f ≡ as_command (one node f) }
+    ensures is { (f : ℕ → Written) → command_over result f ≡ as_command (one node f) }
+    ensures below { (n : ℕ) → IsBelow node n → AreBelow (command_parts result) n }
 {
     match node {
         Node::Skip => CommandNode::Skip,

@@ -6,7 +6,7 @@ use Rattle.c_tree.specs.Statement.{Act, Variable, Opening, Acts, Declares, State
 use Rattle.c_tree.specs.Program.{Shape, size, sizes}
 use Rattle.c_tree.specs.Names.{Names, inner, shape, declared_variables, behind_variable, behind_variables, behind_opening, behind_statement, behind_parameters, opening_shapes, statement_shapes, body_shapes}
 use Rattle.c_names.specs.Shown.{outside}
-use Rattle.c_check.specs.Walk.{behind_body}
+use Rattle.c_walk.specs.Walk.{behind_body}
 
 pub sizes-append : (vs us : List Shape) → sizes (vs ++ us) ≡ sizes vs + sizes us
 sizes-append [] us = omega arith

@@ -10,10 +10,7 @@ use Rattle.c_tree.specs.Resolve.{body_of}
 use Rattle.c_tree.specs.Recursion.{body_callees}
 use Rattle.c_tree.specs.Statement.{Variable, variable, block, Body, Nothing, Declare, Then}
 use Rattle.c_tree.specs.Names.{Names, before_body, declared_variables, behind_variables, behind_statement}
-use Rattle.c_tree.specs.Faults.{Fault, initial_faults, Giving, GivesValue, GivesNone, GivesEither, Within}
-use Rattle.c_check.specs.declared.statement.Gives.{Gives}
-use Rattle.c_check.specs.declared.statement.Gives.TheVariants as gives
-use Rattle.c_check.specs.declared.statement.Around.{Around}
+use Rattle.c_tree.specs.Faults.{Fault, initial_faults}
 
 -- further variables, without their commas
 abbrev pub listed : List (ℕ × LVar) → List Variable
@@ -34,15 +31,6 @@ abbrev pub behind_body : Names → Body → Names
 behind_body s Nothing = s
 behind_body s (Declare d rest) = behind_body (behind_variables s (declared_variables d)) rest
 behind_body s (Then x rest) = behind_body (behind_statement s x) rest
-
--- where a statement stands
-abbrev pub giving_of : Gives → Giving
-giving_of gives.Value = GivesValue
-giving_of gives.Nothing = GivesNone
-giving_of gives.Either = GivesEither
-
-abbrev pub within : Around → Within
-within w = record { bits = w.width.bits; giving = giving_of w.gives; looped = w.looped }
 
 -- a function as definitions see it
 abbrev pub defined : Function → Definition
