@@ -1,5 +1,5 @@
 -- The variables of a body have the lengths that are allowed, and a body whose last thing is a `return` never ends.
-use Rattle.std.proofs.Common.{◌≡◌, refl, ◌∙◌, sym, ℕ, ◌≤◌, Bool, true, false, List, [], ◌∷◌, ◌++◌, Option, Some, None, inl, inr}
+use Rattle.std.proofs.Common.{◌≡◌, refl, ◌∙◌, sym, ℕ, true, List, [], ◌∷◌, ◌++◌, Option, Some, None, inl, inr}
 use Rattle.std.specs.Prelude.{nat_le, ◌&&◌, map}
 use Rattle.std.specs.List.{AllByRecursion}
 use Rattle.std.proofs.lemmas.Bool.{leb-true}
@@ -24,9 +24,10 @@ variable_fits n s (Array x p z q) h = length_fits z (no_right (declared_faults s
 
 variables_fit : (n : ℕ) (s : Names) (vs : List Variable) → variables_faults n s vs ≡ [] → AllByRecursion IsShape (map shape vs)
 variables_fit n s [] h = tt
-variables_fit n s (v ∷ vs) h =
-    (variable_fits n s v (no_left (variable_faults n s v) (variables_faults n (behind_variable s v) vs) h),
-    variables_fit n (behind_variable s v) vs (no_right (variable_faults n s v) (variables_faults n (behind_variable s v) vs) h))
+variables_fit n s (v ∷ vs) h = (
+  variable_fits n s v (no_left (variable_faults n s v) (variables_faults n (behind_variable s v) vs) h),
+  variables_fit n (behind_variable s v) vs (no_right (variable_faults n s v) (variables_faults n (behind_variable s v) vs) h),
+)
 
 opening_fits : (n : ℕ) (s : Names) (first : Option Opening) → opening_faults n s first ≡ [] → AllByRecursion IsShape (opening_shapes first)
 opening_fits n s None h = tt

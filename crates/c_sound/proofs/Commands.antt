@@ -1,22 +1,20 @@
 -- Statements without faults are sound.
-use Rattle.std.proofs.Common.{◌≡◌, refl, sym, ap, subst, ℕ, zero, suc, ◌+◌, ◌-◌, ◌^◌, ◌<◌, arith, Bool, true, false, List, [], ◌∷◌, ◌++◌, Option, Some, None, append_assoc}
+use Rattle.std.proofs.Common.{◌≡◌, refl, subst, ℕ, ◌+◌, ◌<◌, arith, Bool, true, false, List, [], ◌∷◌, ◌++◌, Option, Some, None, append_assoc}
 use Rattle.std.specs.Prelude.{is_some, map, option_map}
-use Rattle.std.specs.List.{AllByRecursion}
 use Rattle.ir_run.specs.Shifts.{IsCellWidth}
 use Rattle.c_tree.specs.declared.statement.AssignMark.{AssignMark}
 use Rattle.c_tree.specs.declared.statement.AssignMark.TheVariants as store
-use Rattle.c_tree.specs.declared.meaning.Place.{Place}
 use Rattle.c_tree.specs.declared.meaning.Meaning.{Meaning}
 use Rattle.c_tree.specs.declared.meaning.Meaning.TheVariants.{OneCell, Cells, Callee, Main, In, Out}
-use Rattle.c_tree.specs.Formula.{Formula, Further, Numeral, Named, Indexed, Called, CalledWith, Paren, Unary, Binary}
+use Rattle.c_tree.specs.Formula.{Formula, Numeral, Named, Indexed, Called, CalledWith, Paren, Unary, Binary}
 use Rattle.c_tree.specs.Statement.{Index, Act, Assign, Step, Invoke, Variable, Scalar, Initial, Array, Opening, Acts, Declares, Statement, Braces, Empty, Simply, Break, Continue, Return, If, IfElse, While, Do, For, Body, Nothing, Declare, Then}
 use Rattle.c_tree.specs.Names.{Names, seen, callee, inner, shape, declared_variables, behind_variable, behind_variables, opening_shapes, behind_opening, behind_statement, statement_shapes, body_shapes}
-use Rattle.c_tree.specs.Faults.{BadKind, unless, use_faults, call_faults, further_count, formula_faults, further_faults, optional_faults, index_faults, act_faults, declared_faults, variable_faults, variables_faults, Giving, GivesValue, GivesNone, GivesEither, return_faults, Within, opening_faults, last_faults, statement_faults, body_faults}
+use Rattle.c_tree.specs.Faults.{BadKind, use_faults, call_faults, further_count, formula_faults, further_faults, optional_faults, index_faults, act_faults, declared_faults, variable_faults, variables_faults, Giving, GivesValue, GivesNone, GivesEither, return_faults, Within, opening_faults, last_faults, statement_faults, body_faults}
 use Rattle.c_tree.specs.Recursion.{callee_of, formula_callees, further_callees, optional_callees, index_callees, act_callees, variable_callees, variables_callees, opening_callees, last_callees, statement_callees, body_callees}
-use Rattle.c_tree.specs.Resolve.{term, terms, stored, element_stored, assigned, as_store, index_term, first_term, invoked, invocation, act, variable, variables, opening, last, command, commands}
+use Rattle.c_tree.specs.Resolve.{term, terms, stored, assigned, as_store, index_term, first_term, invoked, act, variable, variables, opening, last, command, commands}
 use Rattle.c_tree.specs.Program.{Term, Terms, Shape}
 use Rattle.c_tree.specs.Program as program
-use Rattle.c_lowered.specs.Sound.{IsShape, World, count, SoundTerm, SoundTerms, SoundOption, FitsReturn, SoundCommand}
+use Rattle.c_lowered.specs.Sound.{World, count, SoundTerm, SoundTerms, SoundOption, FitsReturn, SoundCommand}
 use Rattle.c_sound.proofs.Lists.{no_left, no_right, kept, each_left, each_right}
 use Rattle.c_sound.proofs.Meanings.{found_is, seen_known, callee_known, Seen, seen_inner, seen_variable, seen_over}
 use Rattle.c_sound.proofs.Terms.{AreLower, IsKnownIn, KnowsIn, answers, one_small, count_all, term_sound, terms_sound}
@@ -143,9 +141,10 @@ module _ (w : World) (wide : IsCellWidth w.bits) where
   variables_sound s (v ∷ vs) rest looped h fits low =
       let after = seen_variable w s v (map shape vs ++ rest) h in
       let front = variable_faults w.bits s v in
-      let back = variables_faults w.bits (behind_variable s v) vs in
-      (variable_sound s v looped after.known (no_left front back fits) (each_left Low (variable_callees s v) (variables_callees (behind_variable s v) vs) low),
-      variables_sound (behind_variable s v) vs rest looped after (no_right front back fits) (each_right Low (variable_callees s v) (variables_callees (behind_variable s v) vs) low))
+      let back = variables_faults w.bits (behind_variable s v) vs in (
+        variable_sound s v looped after.known (no_left front back fits) (each_left Low (variable_callees s v) (variables_callees (behind_variable s v) vs) low),
+        variables_sound (behind_variable s v) vs rest looped after (no_right front back fits) (each_right Low (variable_callees s v) (variables_callees (behind_variable s v) vs) low),
+      )
 
   opening_sound : (s : Names) (first : Option Opening) (looped : Bool) → KnowsIn w (inner s) → KnowsIn w (behind_opening s first) → opening_faults w.bits (inner s) first ≡ [] → AreLower w (opening_callees (inner s) first)
       → SoundCommand w true looped (opening (inner s) first)
@@ -177,31 +176,39 @@ module _ (w : World) (wide : IsCellWidth w.bits) where
           (refl, return_sound s g e at returns h.known (no_left front back fits) (no_right front back fits) low)
       statement_sound looped paid s (If at p c q x) rest h fits low =
           let front = formula_faults w.bits s c in
-          let back = statement_faults (within w g looped) s x in
-          (refl, term_sound w wide s c h.known (no_left front back fits) (each_left Low (formula_callees s c) (statement_callees s x) low),
-          statement_sound looped true s x rest h (no_right front back fits) (each_right Low (formula_callees s c) (statement_callees s x) low))
+          let back = statement_faults (within w g looped) s x in (
+            refl,
+            term_sound w wide s c h.known (no_left front back fits) (each_left Low (formula_callees s c) (statement_callees s x) low),
+            statement_sound looped true s x rest h (no_right front back fits) (each_right Low (formula_callees s c) (statement_callees s x) low),
+          )
       statement_sound looped paid s (IfElse at p c q x f y) rest h fits low =
           let first = formula_faults w.bits s c in
           let second = statement_faults (within w g looped) s x in
           let third = statement_faults (within w g looped) (behind_statement s x) y in
           let front = no_left (first ++ second) third fits in
           let lows = each_left Low (formula_callees s c ++ statement_callees s x) (statement_callees (behind_statement s x) y) low in
-          let both = two_parts w s (statement_shapes x) (statement_shapes y) rest h in
-          (refl, term_sound w wide s c h.known (no_left first second front) (each_left Low (formula_callees s c) (statement_callees s x) lows),
-          statement_sound looped true s x (statement_shapes y ++ rest) both (no_right first second front) (each_right Low (formula_callees s c) (statement_callees s x) lows),
-          statement_sound looped true (behind_statement s x) y rest (seen_over w s (statement_shapes x) (statement_shapes y ++ rest) both) (no_right (first ++ second) third fits)
-          (each_right Low (formula_callees s c ++ statement_callees s x) (statement_callees (behind_statement s x) y) low))
+          let both = two_parts w s (statement_shapes x) (statement_shapes y) rest h in (
+            refl,
+            term_sound w wide s c h.known (no_left first second front) (each_left Low (formula_callees s c) (statement_callees s x) lows),
+            statement_sound looped true s x (statement_shapes y ++ rest) both (no_right first second front) (each_right Low (formula_callees s c) (statement_callees s x) lows),
+            statement_sound looped true (behind_statement s x) y rest (seen_over w s (statement_shapes x) (statement_shapes y ++ rest) both) (no_right (first ++ second) third fits)
+                (each_right Low (formula_callees s c ++ statement_callees s x) (statement_callees (behind_statement s x) y) low),
+          )
       statement_sound looped paid s (While at p c q x) rest h fits low =
           let front = formula_faults w.bits s c in
-          let back = statement_faults (within w g true) s x in
-          (refl, term_sound w wide s c h.known (no_left front back fits) (each_left Low (formula_callees s c) (statement_callees s x) low),
-          statement_sound true true s x rest h (no_right front back fits) (each_right Low (formula_callees s c) (statement_callees s x) low))
+          let back = statement_faults (within w g true) s x in (
+            refl,
+            term_sound w wide s c h.known (no_left front back fits) (each_left Low (formula_callees s c) (statement_callees s x) low),
+            statement_sound true true s x rest h (no_right front back fits) (each_right Low (formula_callees s c) (statement_callees s x) low),
+          )
       statement_sound looped paid s (Do at x v p c q semicolon) rest h fits low =
           let front = statement_faults (within w g true) s x in
           let back = formula_faults w.bits (behind_statement s x) c in
-          let calls = formula_callees (behind_statement s x) c in
-          (refl, term_sound w wide (behind_statement s x) c h.known (no_right front back fits) (each_right Low (statement_callees s x) calls low),
-          statement_sound true true s x rest h (no_left front back fits) (each_left Low (statement_callees s x) calls low))
+          let calls = formula_callees (behind_statement s x) c in (
+            refl,
+            term_sound w wide (behind_statement s x) c h.known (no_right front back fits) (each_right Low (statement_callees s x) calls low),
+            statement_sound true true s x rest h (no_left front back fits) (each_left Low (statement_callees s x) calls low),
+          )
       statement_sound looped paid s (For at p first a c b step q x) rest h fits low =
           let t = behind_opening s first in
           let f1 = opening_faults w.bits (inner s) first in
@@ -217,10 +224,15 @@ module _ (w : World) (wide : IsCellWidth w.bits) where
           let low3 = each_left Low (c1 ++ c2 ++ c3) c4 low in
           let low2 = each_left Low (c1 ++ c2) c3 low3 in
           let after = seen_opening w s first (statement_shapes x) rest h in
-          let began = seen_inner w s ((opening_shapes first ++ statement_shapes x) ++ rest) h in
-          (opening_sound s first looped began.known after.known (no_left f1 f2 fits2) (each_left Low c1 c2 low2),
-          (refl, optional_sound t c after.known (no_right f1 f2 fits2) (each_right Low c1 c2 low2), last_sound t step false after.known (no_right (f1 ++ f2) f3 fits3) (each_right Low (c1 ++ c2) c3 low3),
-          statement_sound true true t x rest after (no_right (f1 ++ f2 ++ f3) f4 fits) (each_right Low (c1 ++ c2 ++ c3) c4 low)))
+          let began = seen_inner w s ((opening_shapes first ++ statement_shapes x) ++ rest) h in (
+            opening_sound s first looped began.known after.known (no_left f1 f2 fits2) (each_left Low c1 c2 low2),
+            (
+              refl,
+              optional_sound t c after.known (no_right f1 f2 fits2) (each_right Low c1 c2 low2),
+              last_sound t step false after.known (no_right (f1 ++ f2) f3 fits3) (each_right Low (c1 ++ c2) c3 low3),
+              statement_sound true true t x rest after (no_right (f1 ++ f2 ++ f3) f4 fits) (each_right Low (c1 ++ c2 ++ c3) c4 low),
+            ),
+          )
 
       -- and so is what stands in a block
       pub body_sound : (looped paid : Bool) (s : Names) (b : Body) (rest : List Shape) → Seen w s (body_shapes b ++ rest) → body_faults (within w g looped) s b ≡ [] → AreLower w (body_callees s b)
@@ -231,13 +243,15 @@ module _ (w : World) (wide : IsCellWidth w.bits) where
           let t = behind_variables s vs in
           let front = variables_faults w.bits s vs in
           let back = body_faults (within w g looped) t more in
-          let both = two_parts w s (map shape vs) (body_shapes more) rest h in
-          (variables_sound s vs (body_shapes more ++ rest) looped both (no_left front back fits) (each_left Low (variables_callees s vs) (body_callees t more) low),
-          body_sound looped paid t more rest (seen_variables w s vs (body_shapes more ++ rest) both) (no_right front back fits) (each_right Low (variables_callees s vs) (body_callees t more) low))
+          let both = two_parts w s (map shape vs) (body_shapes more) rest h in (
+            variables_sound s vs (body_shapes more ++ rest) looped both (no_left front back fits) (each_left Low (variables_callees s vs) (body_callees t more) low),
+            body_sound looped paid t more rest (seen_variables w s vs (body_shapes more ++ rest) both) (no_right front back fits) (each_right Low (variables_callees s vs) (body_callees t more) low),
+          )
       body_sound looped paid s (Then x more) rest h fits low =
           let t = behind_statement s x in
           let front = statement_faults (within w g looped) s x in
           let back = body_faults (within w g looped) t more in
-          let both = two_parts w s (statement_shapes x) (body_shapes more) rest h in
-          (statement_sound looped paid s x (body_shapes more ++ rest) both (no_left front back fits) (each_left Low (statement_callees s x) (body_callees t more) low),
-          body_sound looped paid t more rest (seen_over w s (statement_shapes x) (body_shapes more ++ rest) both) (no_right front back fits) (each_right Low (statement_callees s x) (body_callees t more) low))
+          let both = two_parts w s (statement_shapes x) (body_shapes more) rest h in (
+            statement_sound looped paid s x (body_shapes more ++ rest) both (no_left front back fits) (each_left Low (statement_callees s x) (body_callees t more) low),
+            body_sound looped paid t more rest (seen_over w s (statement_shapes x) (body_shapes more ++ rest) both) (no_right front back fits) (each_right Low (statement_callees s x) (body_callees t more) low),
+          )

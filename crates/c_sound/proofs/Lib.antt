@@ -4,3 +4,6 @@ pub mod Meanings
 pub mod Terms
 pub mod Commands
 pub mod Bodies
+pub mod Globals
+pub mod Functions
+pub mod Whole

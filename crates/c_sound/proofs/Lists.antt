@@ -1,6 +1,6 @@
 -- Lists in which nothing is, and facts of each element.
 use Rattle.std.proofs.Common.{◌≡◌, refl, Bool, true, false, List, [], ◌∷◌, ◌++◌, ℕ, zero, suc}
-use Rattle.std.specs.Prelude.{◌&&◌, map, if◌then◌else◌, replicate}
+use Rattle.std.specs.Prelude.{◌&&◌, if◌then◌else◌, replicate}
 use Rattle.std.specs.List.{AllByRecursion}
 use Rattle.c_tree.specs.Faults.{Fault, unless}
 

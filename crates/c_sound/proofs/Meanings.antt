@@ -1,5 +1,5 @@
 -- What names mean: a variable stands where its cells begin, and a function has its number.
-use Rattle.std.proofs.Common.{◌≡◌, refl, sym, ap, ◌∙◌, subst, ℕ, zero, suc, ◌+◌, ◌<◌, ◌≤◌, arith, Bool, true, false, List, [], ◌∷◌, ◌++◌, Option, Some, None}
+use Rattle.std.proofs.Common.{◌≡◌, refl, ap, ◌∙◌, subst, ℕ, ◌+◌, ◌<◌, ◌≤◌, arith, Bool, true, false, List, [], ◌∷◌, ◌++◌, Option, Some, None}
 use Rattle.std.specs.Prelude.{slice_get, nat_eq, if◌then◌else◌}
 use Rattle.std.specs.List.{AllByRecursion}
 use Rattle.std.proofs.lemmas.Bool.{eqb-true, eq-eqb, cond_both}
@@ -41,6 +41,7 @@ abbrev pub IsKnown : (globals locals : List Shape) → List Function → Option 
 IsKnown gs ls fs None = Unit {0}
 IsKnown gs ls fs (Some m) = Means gs ls fs m
 
+-- each name of a list
 abbrev pub AreKnown : (globals locals : List Shape) → List Function → Meanings → Type 0
 AreKnown gs ls fs ms = AllByRecursion (λ e. Means gs ls fs e.1) ms
 

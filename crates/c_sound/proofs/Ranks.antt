@@ -1,5 +1,5 @@
 -- Where no function reaches itself, functions have ranks that fall from each to those that it calls.
-use Rattle.std.proofs.Common.{◌≡◌, refl, sym, subst, ap, ℕ, zero, suc, ◌+◌, ◌<◌, ◌≤◌, max, arith, Bool, true, false, List, [], ◌∷◌, length, inl, inr, eqb}
+use Rattle.std.proofs.Common.{◌≡◌, refl, sym, subst, ap, ℕ, zero, suc, ◌<◌, ◌≤◌, max, arith, Bool, true, false, List, [], ◌∷◌, length, inl, inr, eqb}
 use Rattle.std.specs.Prelude.{◌||◌}
 use Rattle.std.specs.List.{list_any, AllByRecursion, IsDistinct}
 use Rattle.std.proofs.lemmas.Bool.{cases_lt, eqb-true}
@@ -61,7 +61,7 @@ no_long g acyclic a k p =
     let h = length-le_from_distinct_below (sources g a k p) (length g) (distinct g acyclic a k p) (λ q h. sources_below g a k p q (any_among q (sources g a k p) h)) in
     omega (arith, h, length_sources g a k p)
 
--- one more than the highest of these
+-- one more than the highest of these, or 0 where there is none
 abbrev highest : (ℕ → ℕ) → List ℕ → ℕ
 highest f [] = 0
 highest f (b ∷ bs) = max (suc (f b)) (highest f bs)

@@ -1,6 +1,6 @@
 -- Expressions without faults are sound.
-use Rattle.std.proofs.Common.{◌≡◌, refl, sym, ap, ◌∙◌, subst, ℕ, zero, suc, ◌+◌, ◌-◌, ◌*◌, ◌^◌, ◌<◌, ◌≤◌, arith, Bool, true, false, List, [], ◌∷◌, ◌++◌, Option, Some, None, ltb}
-use Rattle.std.specs.Prelude.{slice_get, nat_lt, not, ◌&&◌, ◌||◌, ◌==◌}
+use Rattle.std.proofs.Common.{◌≡◌, refl, sym, ap, ◌∙◌, ℕ, suc, ◌+◌, ◌-◌, ◌*◌, ◌^◌, ◌<◌, arith, Bool, true, false, List, [], ◌++◌, Option, Some, None}
+use Rattle.std.specs.Prelude.{nat_lt, not, ◌&&◌, ◌||◌, ◌==◌}
 use Rattle.std.specs.List.{AllByRecursion}
 use Rattle.std.proofs.lemmas.Bool.{eqb-true, ltb-true}
 use Rattle.std.proofs.Math.Pow.{pow_pos}
@@ -12,7 +12,7 @@ use Rattle.c_tree.specs.declared.meaning.Meaning.TheVariants.{OneCell, Cells, Ca
 use Rattle.c_tree.specs.Formula.{Formula, Further, Numeral, Named, Indexed, Called, CalledWith, Paren, Unary, Binary, NoMore, More}
 use Rattle.c_tree.specs.Formula as formula
 use Rattle.c_tree.specs.Names.{Names, seen, callee}
-use Rattle.c_tree.specs.Faults.{BadKind, BadNumber, BadShift, unless, number_faults, use_faults, call_faults, first_place, is_amount, shift_faults, further_count, formula_faults, further_faults}
+use Rattle.c_tree.specs.Faults.{BadKind, BadNumber, BadShift, unless, use_faults, call_faults, first_place, is_amount, shift_faults, further_count, formula_faults, further_faults}
 use Rattle.c_tree.specs.Recursion.{callee_of, formula_callees, further_callees}
 use Rattle.c_tree.specs.Resolve.{scalar, element, called, written, unary, binary, term, terms}
 use Rattle.c_tree.specs.Program.{Term, Terms, Function}
@@ -29,6 +29,7 @@ AreLower w gs = AllByRecursion (λ g. w.rank g < w.own) gs
 abbrev pub IsKnownIn : World → Option Meaning → Type 0
 IsKnownIn w o = IsKnown w.globals w.locals w.functions o
 
+-- the same of all names
 abbrev pub KnowsIn : World → Names → Type 0
 KnowsIn w s = Knows w.globals w.locals w.functions s
 
@@ -51,7 +52,7 @@ answers w g arity k arguments at gives used h same fits low =
       lower = low;
     }
 
--- 0 and 1 are small
+-- 1 is a number of n bits
 pub one_small : (n : ℕ) → IsCellWidth n → 1 < 2 ^ (n - 1)
 one_small n wide =
     let k : n - 1 ≡ suc (n - 2) = omega (arith, wide.0) in
@@ -161,6 +162,7 @@ module _ (w : World) (wide : IsCellWidth w.bits) where
     -- and so are arguments
     pub terms_sound : (s : Names) (xs : Further) → KnowsIn w s → further_faults w.bits s xs ≡ [] → AreLower w (further_callees s xs) → SoundTerms w (terms s xs)
     terms_sound s NoMore h fits low = tt
-    terms_sound s (More comma x xs) h fits low =
-        (term_sound s x h (no_left (formula_faults w.bits s x) (further_faults w.bits s xs) fits) (each_left (λ g. w.rank g < w.own) (formula_callees s x) (further_callees s xs) low),
-        terms_sound s xs h (no_right (formula_faults w.bits s x) (further_faults w.bits s xs) fits) (each_right (λ g. w.rank g < w.own) (formula_callees s x) (further_callees s xs) low))
+    terms_sound s (More comma x xs) h fits low = (
+      term_sound s x h (no_left (formula_faults w.bits s x) (further_faults w.bits s xs) fits) (each_left (λ g. w.rank g < w.own) (formula_callees s x) (further_callees s xs) low),
+      terms_sound s xs h (no_right (formula_faults w.bits s x) (further_faults w.bits s xs) fits) (each_right (λ g. w.rank g < w.own) (formula_callees s x) (further_callees s xs) low),
+    )
