@@ -1,0 +1,9 @@
+pub mod Ranks
+pub mod Lists
+pub mod Meanings
+pub mod Terms
+pub mod Commands
+pub mod Bodies
+pub mod Globals
+pub mod Functions
+pub mod Whole
