@@ -1,6 +1,6 @@
 -- What is known of a resolved program that is accepted: places are variables' cells, calls fit their functions and lead to functions of a lower rank,
 -- numbers and lengths are in their limits, and each call has paid a turn.
-use Rattle.std.specs.Prelude.{◌≡◌, ℕ, zero, suc, ◌+◌, ◌-◌, ◌^◌, ◌<◌, ◌≤◌, nat_eq, Bool, true, false, List, [], ◌∷◌, map, take, length, replicate, Option, Some, None, slice_get, All, ◌⊎◌, if◌then◌else◌}
+use Rattle.std.specs.Prelude.{◌≡◌, ℕ, suc, ◌+◌, ◌-◌, ◌^◌, ◌<◌, ◌≤◌, nat_eq, Bool, true, false, List, [], ◌∷◌, map, take, length, replicate, Option, Some, None, slice_get, All, ◌⊎◌, if◌then◌else◌}
 use Rattle.ir_core.specs.Inputs.{IsNumber}
 use Rattle.ir_run.specs.Shifts.{IsCellWidth}
 use Rattle.c_tree.specs.declared.meaning.Place.{Place}
