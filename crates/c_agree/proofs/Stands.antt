@@ -211,17 +211,17 @@ module _ (g : Ground) (is : IsGround g) where
   pub only_numeral : (z : ℤ) (u : Turn Machine) → IsNumber g.bits z → only (is_numeral z) u ≡ u
   only_numeral z u h = ap (λ b. only b u) (numeral_of g.bits z is.width h)
 
-  -- outputs with nothing behind them
-  free : (c n : ℕ) (out : List ℤ) (m next : Machine) (o : Outcome) → steps m ≡ Goes [] next → Met g c out next n o → Met g c out m n o
-  free c n out m next o e rest = meets_free steps g.weight c out m next [] n o e (subst (λ xs. Met g c xs next n o) (sym (append-nil out)) rest)
+  -- a step that puts out nothing
+  pub met_free : (c n : ℕ) (out : List ℤ) (m next : Machine) (o : Outcome) → steps m ≡ Goes [] next → Met g c out next n o → Met g c out m n o
+  met_free c n out m next o e rest = meets_free steps g.weight c out m next [] n o e (subst (λ xs. Met g c xs next n o) (sym (append-nil out)) rest)
 
   -- a value goes into a cell
   pub met_set : (c n : ℕ) (out : List ℤ) (m : Machine) (p k : ℕ) (t : Node) (z : ℤ) (o : Outcome) → m.place ≡ p → slice_get g.code p ≡ Some (Set k t) → Worth t z m → Met g c out (on (put k z m)) n o → Met g c out m n o
-  met_set c n out m p k t z o at h w rest = free c n out m (on (put k z m)) o (does m p (Set k t) at h ∙ w (λ z s. Goes [] (on (put k z s)))) rest
+  met_set c n out m p k t z o at h w rest = met_free c n out m (on (put k z m)) o (does m p (Set k t) at h ∙ w (λ z s. Goes [] (on (put k z s)))) rest
 
   -- a mark
   pub met_mark : (c n : ℕ) (out : List ℤ) (m : Machine) (p l : ℕ) (o : Outcome) → m.place ≡ p → slice_get g.code p ≡ Some (Mark l) → Met g c out (on m) n o → Met g c out m n o
-  met_mark c n out m p l o at h rest = free c n out m (on m) o (does m p (Mark l) at h) rest
+  met_mark c n out m p l o at h rest = met_free c n out m (on m) o (does m p (Mark l) at h) rest
 
   -- the mark at the head of a loop or of a function, which pays
   pub met_head : (c n : ℕ) (out : List ℤ) (m : Machine) (p l : ℕ) (o : Outcome) → m.place ≡ p → slice_get g.code p ≡ Some (Mark l) → Met g (c + g.weight) out (on m) n o → Met g c out m n o
@@ -229,7 +229,7 @@ module _ (g : Ground) (is : IsGround g) where
 
   -- a jump to a label
   pub met_go : (c n : ℕ) (out : List ℤ) (m : Machine) (p q l : ℕ) (o : Outcome) → m.place ≡ p → slice_get g.code p ≡ Some (Jump l) → place_of g.code l ≡ Some q → Met g c out (at_place q m) n o → Met g c out m n o
-  met_go c n out m p q l o at h to rest = free c n out m (at_place q m) o (does m p (Jump l) at h ∙ ap (λ z. at_mark z m) to) rest
+  met_go c n out m p q l o at h to rest = met_free c n out m (at_place q m) o (does m p (Jump l) at h ∙ ap (λ z. at_mark z m) to) rest
 
   label_by : (a l : ℕ) → (if int_lt (pos a +ℤ pos l) (pos a) then None else Some (unsigned_abs ((pos a +ℤ pos l) -ℤ pos a))) ≡ Some l
   label_by a l =
@@ -244,7 +244,7 @@ module _ (g : Ground) (is : IsGround g) where
   -- a jump to the label in a cell
   pub met_back : (c n : ℕ) (out : List ℤ) (m : Machine) (p q k l : ℕ) (o : Outcome) → m.place ≡ p → slice_get g.code p ≡ Some (JumpCell k) → held m k ≡ label_value l → place_of g.code l ≡ Some q → Met g c out (at_place q m) n o → Met g c out m n o
   met_back c n out m p q k l o at h cell to rest =
-      free c n out m (at_place q m) o
+      met_free c n out m (at_place q m) o
       (does m p (JumpCell k) at h ∙ ap (λ v. at_mark (place_by g.code (label_of v)) m) cell ∙ ap (λ v. at_mark (place_by g.code v) m) (label_is l) ∙ ap (λ z. at_mark z m) to)
       rest
 
@@ -261,7 +261,7 @@ module _ (g : Ground) (is : IsGround g) where
   -- a value goes into an array's cell
   pub met_store : (c n : ℕ) (out : List ℤ) (m : Machine) (p : ℕ) (t u : Node) (a : ℤ) (k : ℕ) (z : ℤ) (o : Outcome) → m.place ≡ p → slice_get g.code p ≡ Some (Store t u) → IsNumber g.bits a → address g.bits a ≡ k → is_inside g.arrays k ≡ true → Worth t a m → Worth u z m → Met g c out (on (put k z m)) n o → Met g c out m n o
   met_store c n out m p t u a k z o at h is_number cell inside wt wu rest =
-      free c n out m (on (put k z m)) o
+      met_free c n out m (on (put k z m)) o
       (does m p (Store t u) at h
       ∙ wt (λ a s. only (is_numeral a) (value g.arrays g.bits u (λ z s. only (is_inside g.arrays (address g.bits a)) (Goes [] (on (put (address g.bits a) z s)))) s))
       ∙ only_numeral a (value g.arrays g.bits u (λ z s. only (is_inside g.arrays (address g.bits a)) (Goes [] (on (put (address g.bits a) z s)))) m) is_number
@@ -275,7 +275,7 @@ module _ (g : Ground) (is : IsGround g) where
       → Met g c out (if b then at_place q m else on m) n o
       → Met g c out m n o
   met_branch c n out m p q l r t u x y b o at h to x_number y_number wt wu e rest =
-      free c n out m (if b then at_place q m else on m) o
+      met_free c n out m (if b then at_place q m else on m) o
       (does m p (Branch r t u l) at h
       ∙ wt (λ x s. only (is_numeral x) (value g.arrays g.bits u (λ y s. only (is_numeral y) (if holds r (number g.bits x) (number g.bits y) then at_mark (place_of g.code l) s else Goes [] (on s))) s))
       ∙ only_numeral x (value g.arrays g.bits u (λ y s. only (is_numeral y) (if holds r (number g.bits x) (number g.bits y) then at_mark (place_of g.code l) s else Goes [] (on s))) m) x_number
