@@ -14,27 +14,27 @@ use Rattle.ir_core.specs.declared.operator.Arith.TheVariants as operator
 use Rattle.ir_core.specs.declared.relation.Rel.{Rel}
 use Rattle.ir_core.specs.declared.relation.Rel.TheVariants as rel
 use Rattle.ir_core.specs.Inputs.{IsNumber}
-use Rattle.ir_run.specs.Node.{Node, Const, Base, Label, Cell, In, Load, Unary, Shifted, Binary}
+use Rattle.ir_run.specs.Node.{Node, Const, Base, Label, Cell, In, Load, Unary, Binary}
 use Rattle.ir_run.specs.Entry.{Entry, Branch, Jump, Mark}
 use Rattle.ir_run.specs.Entry as entry
-use Rattle.ir_run.specs.Runs.{Turn, Goes}
+use Rattle.ir_run.specs.Runs.{Goes}
 use Rattle.ir_run.specs.Run.{place_of, at_place, on, put, wants}
 use Rattle.ir_run.specs.Value.{held, label_value, number, address}
 use Rattle.ir_run.specs.Value as machine
-use Rattle.ir_run.specs.Strict.{is_inside, is_numeral, only, value}
-use Rattle.ir_run.proofs.Agreement.{meets_end, meets_free}
+use Rattle.ir_run.specs.Strict.{is_inside, is_numeral, only}
+use Rattle.ir_run.proofs.Agreement.{meets_end}
 use Rattle.c_tree.specs.declared.meaning.Place.{Place}
 use Rattle.c_tree.specs.declared.meaning.Place.TheVariants as places
 use Rattle.c_tree.specs.Program.{Term, Terms, Function, size}
 use Rattle.c_tree.specs.Program as program
 use Rattle.c_tree.specs.Meaning as source
 use Rattle.c_tree.specs.Meaning.{Calls, Next, NextOf, with_arguments, is_true, tested, values}
-use Rattle.c_tree.specs.Code.{Frame, Layout, Aim, Value, When, Unless, Piece, used, in_cell, is_saved, scalar_read, one_if, has_call, have_call, cells, argument_cells, marks, argument_marks, AsValue, IfHolds, IfFails, side, other_side, element_address, is_below_length, index_steps, shifted_tree, opposite, branch, passed, frame_of, jump_steps, call_steps, cell_of, piece, passing}
+use Rattle.c_tree.specs.Code.{Frame, Aim, Value, When, Unless, Piece, used, in_cell, is_saved, scalar_read, one_if, has_call, have_call, cells, argument_cells, marks, argument_marks, AsValue, IfHolds, IfFails, element_address, is_below_length, index_steps, shifted_tree, opposite, passed, jump_steps, call_steps, cell_of, piece, passing}
 use Rattle.c_lowered.specs.Sound.{IsArray, IsScalar, Answers, count, SoundTerm, SoundTerms}
 use Rattle.c_lowered.proofs.Numbers.{wrap_is_number, small_is_number, prefixed_number, any_shift_number, arithmetic_number, number_range}
-use Rattle.c_agree.proofs.World.{Machine, Stands, Ground, IsGround, IsHome, IsFunction, function_frame, Here, IsHere, IsPlaced, layout_of, source_cell, cell_at, Fits, Met, MetFrom, Same, IsWorth, CallsMet, Aimed, is_valued, Held, After, env, PieceMet, PassingMet, JumpMet, IndexMet}
+use Rattle.c_agree.proofs.World.{Machine, Stands, Ground, IsGround, IsFunction, function_frame, Here, IsHere, layout_of, source_cell, cell_at, Fits, Met, MetFrom, Same, IsWorth, CallsMet, Aimed, Held, After, env, PieceMet, PassingMet, JumpMet, IndexMet}
 use Rattle.c_agree.proofs.Stands.{split, put_same, put_other, number_of, element_number, element_cell, fits_at, fits_on, fits_jump, fits_set, fits_assign, Worth, does, only_numeral, met_set, met_mark, met_go, met_branch, met_trap, met_free, steps}
-use Rattle.c_agree.proofs.Frame.{same_refl, same_more, same_any, same_trans, same_both, same_first, same_set, same_on, same_jump, worth_at, worth_later, worth_now, worth_number, worth_unary, worth_shifted, worth_binary, plain, there, same_cell, worth_cell, held_same}
+use Rattle.c_agree.proofs.Frame.{same_refl, same_more, same_any, same_trans, same_both, same_first, same_set, same_on, same_jump, worth_later, worth_now, worth_number, worth_unary, worth_shifted, worth_binary, plain, there, same_cell, worth_cell, held_same}
 
 -- ---- tests
 
@@ -84,6 +84,7 @@ zero_is (negsuc a) = sym (ne_eqb (suc a) 0 (λ e. omega arith))
 pub true_holds : (z : ℤ) → holds rel.Ne z (pos 0) ≡ is_true z
 true_holds z = ap not (zero_is z)
 
+-- and false where it's 0
 pub false_holds : (z : ℤ) → holds rel.Eq z (pos 0) ≡ not (is_true z)
 false_holds z = zero_is z ∙ sym (not_not (unsigned_abs z == 0))
 
@@ -94,7 +95,7 @@ truth_is false = refl
 
 -- ---- places
 
--- the address of a variable's first cell
+-- the first cell of a variable
 pub cell_of_is : (g : Ground) (h : Here) (p : Place) → cell_of (layout_of g h) p ≡ cell_at h p
 cell_of_is g h (places.Global k) = refl
 cell_of_is g h (places.Local k) = refl
@@ -107,16 +108,19 @@ module _ (g : Ground) (is : IsGround g) where
   half_big : 2 ^ 15 ≤ 2 ^ (g.bits - 1)
   half_big = pow_mono {i = 15} {j = g.bits - 1} (let w = is.width.0 in omega (arith, w))
 
-  -- 0 and 1 are numbers
+  -- 1 is below half of the numbers of n bits
   pub one_small : 1 < 2 ^ (g.bits - 1)
   one_small = let b = half_big in omega (arith, b)
 
+  -- so is 0
   pub zero_small : 0 < 2 ^ (g.bits - 1)
   zero_small = let b = half_big in omega (arith, b)
 
+  -- 0 is a number of n bits
   pub zero_number : IsNumber g.bits (pos 0)
   zero_number = small_is_number g.bits 0 is.width zero_small
 
+  -- 1 is one
   pub one_number : IsNumber g.bits (pos 1)
   one_number = small_is_number g.bits 1 is.width one_small
 
@@ -125,10 +129,11 @@ module _ (g : Ground) (is : IsGround g) where
   cell_worth m k z e go = ap (λ v. go v m) e
 
 module _ (g : Ground) (is : IsGround g) (h : Here) (at : IsHere g h) where
-  -- a scalar's cell in the memory, and its cell
+  -- a scalar's cell in the memory is there
   pub scalar_below : (p : Place) → IsScalar h.world p → source_cell h p < g.memory
   scalar_below p e = let i = (at.placed p None e 0 (omega arith)).below in omega (arith, i)
 
+  -- it's the cell of the scalar's cell in the memory
   pub scalar_home : (p : Place) → IsScalar h.world p → g.home (source_cell h p) ≡ cell_at h p
   scalar_home p e =
       let one : source_cell h p ≡ source_cell h p + 0 = omega arith in
@@ -162,10 +167,11 @@ module _ (g : Ground) (is : IsGround g) (h : Here) (at : IsHere g h) where
       ∙ ap (λ v. go (arithmetic g.bits operator.Add v (number g.bits first)) m) (number_of g.bits (pos j) is.width j_number)
       ∙ ap (λ v. go (arithmetic g.bits operator.Add (pos j) v) m) (number_of g.bits first is.width first_number))
 
-  -- it's a number, whose address is the element's cell
+  -- it's a number of n bits
   pub element_is_number : (p : Place) (j : ℕ) → IsNumber g.bits (element_number g.bits (cell_at h p) j)
   element_is_number p j = wrap_is_number g.bits _ is.width
 
+  -- the address of that number is the element's cell
   pub element_is : (p : Place) (n j : ℕ) → IsArray h.world p n → j < n → address g.bits (element_number g.bits (cell_at h p) j) ≡ cell_at h p + j
   element_is p n j e lt = element_cell g.bits (cell_at h p) j is.width (element_low p n j e lt)
 
@@ -179,10 +185,11 @@ module _ (g : Ground) (is : IsGround g) (h : Here) (at : IsHere g h) where
       ∙ ap (λ b. only b (go (held m (cell_at h p + j)) m)) (at.array p n e j lt)
       ∙ ap (λ v. go v m) element
 
-  -- the variables hold the same on both sides
+  -- an element holds the same on both sides
   pub element_held : (p : Place) (n j t q : ℕ) (st : source.State) (m : Machine) → IsArray h.world p n → j < n → Fits g t st m q → held m (cell_at h p + j) ≡ source.held st (source_cell h p + j)
   element_held p n j t q st m e lt fits = let i = at.placed p (Some n) e j lt in ap (λ k. held m k) (sym i.home) ∙ fits.same (source_cell h p + j) i.below
 
+  -- a scalar holds the same on both sides
   pub scalar_held : (p : Place) (t q : ℕ) (st : source.State) (m : Machine) → IsScalar h.world p → Fits g t st m q → held m (cell_at h p) ≡ source.held st (source_cell h p)
   scalar_held p t q st m e fits = ap (λ k. held m k) (sym (scalar_home p e)) ∙ fits.same (source_cell h p) (scalar_below p e)
 

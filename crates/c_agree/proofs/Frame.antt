@@ -1,5 +1,5 @@
 -- The cells that an expression leaves as they are, and what its tree is worth.
-use Rattle.std.proofs.Common.{◌≡◌, ℕ, zero, suc, ◌+◌, ◌<◌, ◌≤◌, ◌^◌, ℤ, pos, negsuc, List, [], ◌∷◌, Bool, true, false, length, length-set, refl, ap, ◌∙◌, subst, sym, ◌||◌, ◌*ℤ◌, div-one, arith}
+use Rattle.std.proofs.Common.{◌≡◌, ℕ, zero, suc, ◌<◌, ◌≤◌, ◌^◌, ℤ, pos, negsuc, List, [], ◌∷◌, Bool, true, false, length, refl, ap, ◌∙◌, subst, sym, ◌||◌, ◌*ℤ◌, div-one, arith}
 use Rattle.std.specs.Int.{int_shr}
 use Rattle.std.proofs.lemmas.Bool.{or_left, or_right}
 use Rattle.std.proofs.lemmas.Int.{ints}
@@ -35,6 +35,7 @@ module _ (g : Ground) (h : Here) where
   pub same_more : (b c : Bool) (s : ℕ) (m m' : Machine) → (b ≡ true → c ≡ true) → Same g h b s m m' → Same g h c s m m'
   same_more b c s m m' imp i = record { by = λ k safe out. i.by k (λ e. safe (imp e)) out }
 
+  -- where nothing was called
   pub same_any : (c : Bool) (s : ℕ) (m m' : Machine) → Same g h false s m m' → Same g h c s m m'
   same_any c s m m' i = same_more false c s m m' (λ e. let e' : false ≡ true = e in cc) i
 
@@ -54,10 +55,11 @@ module _ (g : Ground) (h : Here) where
   pub same_set : (b : Bool) (s k : ℕ) (z : ℤ) (m1 m2 : Machine) → s ≤ k → k < h.hi → Same g h b s m1 m2 → Same g h b s m1 (on (put k z m2))
   same_set b s k z m1 m2 le lt i = record { by = λ j safe out. put_other m2 k j z (λ e. out (omega arith) (omega arith)) ∙ i.by j safe out }
 
-  -- a statement further, or elsewhere
+  -- a statement further
   pub same_on : (b : Bool) (s : ℕ) (m1 m2 : Machine) → Same g h b s m1 m2 → Same g h b s m1 (on m2)
   same_on b s m1 m2 i = record { by = i.by }
 
+  -- elsewhere in the list
   pub same_jump : (b : Bool) (s p : ℕ) (m1 m2 : Machine) → Same g h b s m1 m2 → Same g h b s m1 (at_place p m2)
   same_jump b s p m1 m2 i = record { by = i.by }
 
@@ -81,7 +83,7 @@ module _ (g : Ground) (h : Here) where
   worth_number b s z x m e = record { by = λ n i go. ap (λ v. go v n) e }
 
   module _ (is : IsGround g) where
-    -- operators
+    -- an operator of one number
     pub worth_unary : (b : Bool) (op : Prefix) (t : Node) (s : ℕ) (x : ℤ) (m : Machine) → IsNumber g.bits x → IsWorth g h b t s x m → IsWorth g h b (Unary op t) s (prefixed g.bits op x) m
     worth_unary b op t s x m x_number wt = record {
       by = λ n i go.
@@ -102,10 +104,12 @@ module _ (g : Ground) (h : Here) where
     no_shift shift.Shl x x_number = ap (wrap g.bits) (times_one x) ∙ x_number
     no_shift shift.Shr x x_number = over_one x
 
+    -- a shift, which is left out where it's by 0
     pub worth_shifted : (b : Bool) (op : Shift) (t : Node) (k s : ℕ) (x : ℤ) (m : Machine) → IsNumber g.bits x → IsWorth g h b t s x m → IsWorth g h b (shifted_tree op t k) s (shifted g.bits op x k) m
     worth_shifted b op t zero s x m x_number wt = subst (λ v. IsWorth g h b t s v m) (sym (no_shift op x x_number)) wt
     worth_shifted b op t (suc k) s x m x_number wt = shift_worth b op t (suc k) s x m x_number wt
 
+    -- an operator of two numbers
     pub worth_binary : (b : Bool) (op : Arith) (t u : Node) (s : ℕ) (x y : ℤ) (m : Machine) → IsNumber g.bits x → IsNumber g.bits y → IsWorth g h b t s x m → IsWorth g h b u s y m → IsWorth g h b (Binary op t u) s (arithmetic g.bits op x y) m
     worth_binary b op t u s x y m x_number y_number wt wu = record {
       by = λ n i go.

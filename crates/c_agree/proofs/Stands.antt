@@ -1,6 +1,6 @@
 -- Statements that stand at a place of a list, the statements' machine beside the program, and single steps.
-use Rattle.std.proofs.Common.{◌≡◌, ℕ, zero, suc, ◌+◌, ◌-◌, ◌*◌, ◌^◌, ◌%◌, ◌<◌, ◌≤◌, ℤ, pos, negsuc, ◌+ℤ◌, ◌-ℤ◌, List, [], ◌∷◌, ◌++◌, Bool, true, false, Option, Some, None, length, append_assoc, append-nil, length-append, length-set, get_or-set_same, get_or-set_other, add-one, refl, ap, sym, ◌∙◌, subst, arith}
-use Rattle.std.specs.Prelude.{slice_get, slice_set, nat_eq, nat_lt, int_lt, unsigned_abs, if◌then◌else◌}
+use Rattle.std.proofs.Common.{◌≡◌, ℕ, suc, ◌+◌, ◌-◌, ◌^◌, ◌%◌, ◌<◌, ◌≤◌, ℤ, pos, negsuc, ◌+ℤ◌, ◌-ℤ◌, List, [], ◌∷◌, ◌++◌, Bool, true, false, Some, None, length, append_assoc, append-nil, length-append, length-set, get_or-set_same, get_or-set_other, refl, ap, sym, ◌∙◌, subst, arith}
+use Rattle.std.specs.Prelude.{slice_get, nat_eq, int_lt, unsigned_abs, if◌then◌else◌}
 use Rattle.std.specs.Int.{int_rem_euclid}
 use Rattle.std.specs.Int.Signed.{mag}
 use Rattle.std.proofs.lemmas.Bool.{eqb-true, eqb-false, lt-ltb, le-ltb}
@@ -19,13 +19,13 @@ use Rattle.ir_core.specs.Inputs.{IsNumber}
 use Rattle.ir_run.specs.Shifts.{IsCellWidth}
 use Rattle.ir_run.specs.Node.{Node}
 use Rattle.ir_run.specs.Entry.{Entry, Set, Store, Out, Branch, JumpCell, Jump, Mark, Halt}
-use Rattle.ir_run.specs.Runs.{Turn, Goes, Ends}
+use Rattle.ir_run.specs.Runs.{Turn, Goes}
 use Rattle.ir_run.specs.Run.{place_of, place_by, at_place, on, put}
 use Rattle.ir_run.specs.Value.{held, label_value, label_of, number, address}
 use Rattle.ir_run.specs.Strict.{is_inside, is_numeral, only, value, at_mark, act, step}
-use Rattle.ir_run.proofs.Agreement.{meets_step, meets_free, meets_more, meets_end}
+use Rattle.ir_run.proofs.Agreement.{meets_step, meets_free, meets_end}
 use Rattle.c_tree.specs.Meaning as source
-use Rattle.c_lowered.proofs.Numbers.{double, number_small, wrap_is_number}
+use Rattle.c_lowered.proofs.Numbers.{number_small, wrap_is_number}
 use Rattle.c_agree.proofs.World.{Machine, Stands, Ground, IsGround, IsHome, Fits, Met}
 
 -- ---- statements in a list
