@@ -1,1 +1,4 @@
+pub mod Evaluation
+pub mod Frame
+pub mod Stands
 pub mod World
