@@ -1,3 +1,5 @@
 pub mod World
 pub mod Places
+pub mod Blocks
+pub mod Shapes
 pub mod Unbroken

@@ -142,4 +142,4 @@ call_unbroken p n (suc depth) g zs next h s = entered_unbroken _ (call_unbroken 
 
 -- a program's outcome is no broken promise
 pub outcome_unbroken : (p : Program) (n : ℕ) (input : List ℤ) (turns : ℕ) → Unbroken (outcome p n input turns)
-outcome_unbroken p n input turns = body_unbroken _ (call_unbroken p n turns) (main_body p.main) _ (λ z s. ended s) (beginning p input turns)
+outcome_unbroken p n input turns = body_unbroken _ (call_unbroken p n turns) (main_body p.main) (λ z. stopped stops.Ended) (λ z s. ended s) (beginning p input turns)

@@ -1,5 +1,7 @@
 use Rattle.c_agree.proofs.World.{Fits, CallsMet, PieceMet, PassingMet, JumpMet, IndexMet, IsCalled, Ground, IsHome, payable}
 use Rattle.c_agree.proofs.Places.{home_behind}
+use Rattle.c_agree.proofs.Blocks.{total_is}
+use Rattle.c_agree.proofs.Shapes.{inside_function}
 use Rattle.c_agree.proofs.Unbroken.{outcome_unbroken}
 use Rattle.c_agree.proofs.law.statements_agree_with_the_program.Goals as goal
 
