@@ -132,3 +132,15 @@ home_below (b ∷ bs) room x lt = by_test (nat_lt x b.variables) refl (λ l. hom
 -- behind the first block's variables there are only cells behind the first block
 pub home_behind : (b : Block) (bs : List Block) (x : ℕ) → b.variables ≤ x → b.room ≤ home (b ∷ bs) x
 home_behind b bs x le = let e : home (b ∷ bs) x ≡ b.room + home bs (x - b.variables) = if_ge x b.variables _ _ le in omega arith
+
+-- a block has room for its variables
+pub room_at : (bs : List Block) → Room bs → (i : ℕ) → (block_at bs i).variables ≤ (block_at bs i).room
+room_at [] room i = omega arith
+room_at (b ∷ bs) room zero = room.0
+room_at (b ∷ bs) room (suc i) = room_at bs room.1 i
+
+-- a block's end is among all
+pub block_end : (bs : List Block) (i : ℕ) → cell bs i + (block_at bs i).room ≤ whole bs
+block_end [] i = omega arith
+block_end (b ∷ bs) zero = omega arith
+block_end (b ∷ bs) (suc i) = omega (arith, block_end bs i)
