@@ -5,4 +5,5 @@ pub mod Shapes
 pub mod Parts
 pub mod DataLaw
 pub mod Grounds
+pub mod Bodies
 pub mod Unbroken
