@@ -6,4 +6,5 @@ pub mod Parts
 pub mod DataLaw
 pub mod Grounds
 pub mod Bodies
+pub mod Filled
 pub mod Unbroken
