@@ -142,7 +142,8 @@ length-initial v =
     length-take-le (size v.shape) (v.initial ++ replicate (size v.shape - length v.initial) (pos 0))
     (omega (arith, length-append v.initial (replicate (size v.shape - length v.initial) (pos 0)), length-replicate (size v.shape - length v.initial) (pos 0)))
 
-zeros_at : (m k : ℕ) → at (replicate m (pos 0)) k ≡ pos 0
+-- zeros, and more zeros behind them
+pub zeros_at : (m k : ℕ) → at (replicate m (pos 0)) k ≡ pos 0
 zeros_at m k = by_test (nat_lt k m) refl
   where
     by_test : (b : Bool) → nat_lt k m ≡ b → at (replicate m (pos 0)) k ≡ pos 0

@@ -7,4 +7,5 @@ pub mod DataLaw
 pub mod Grounds
 pub mod Bodies
 pub mod Filled
+pub mod Beginning
 pub mod Unbroken
