@@ -108,3 +108,12 @@ module _ (p : Program) (n : ℕ) (sound : Sound p n) where
   -- its mark comes first
   pub main_mark : slice_get (program_entries p n) 0 ≡ Some (Mark 0)
   main_mark = (main_stands p n sound.main sound.main_is).stands.0
+
+  -- its variables come behind the globals, and it has the highest rank
+  pub main_begins : main_body.here.source_base ≡ main_base p
+  unfolding main_body
+  main_begins = refl
+
+  pub main_rank : main_body.here.rank ≡ sound.top
+  unfolding main_body
+  main_rank = refl

@@ -9,3 +9,4 @@ pub mod Bodies
 pub mod Filled
 pub mod Beginning
 pub mod Unbroken
+pub mod Together

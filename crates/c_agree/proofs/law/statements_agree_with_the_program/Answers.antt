@@ -8,6 +8,7 @@ use Rattle.c_agree.proofs.Grounds.{is_ground, is_here_at}
 use Rattle.c_agree.proofs.Bodies.{main_mark}
 use Rattle.c_agree.proofs.Filled.{length-initially}
 use Rattle.c_agree.proofs.Beginning.{fits_beginning}
+use Rattle.c_agree.proofs.Together.{agrees}
 use Rattle.c_agree.proofs.Unbroken.{outcome_unbroken}
 use Rattle.c_agree.proofs.law.statements_agree_with_the_program.Goals as goal
 
