@@ -1,1 +1,3 @@
 pub mod Lax
+pub mod Labels
+pub mod Once

@@ -3,4 +3,4 @@
 
 mod law;
 
-pub use law::run_lax;
+pub use law::{label_once, run_lax};
