@@ -15,9 +15,9 @@ use Rattle.c_tree.specs.Lowered.{Returns, Halts, layout, function_steps, main_st
 use Rattle.c_agree.proofs.World.{Stands}
 
 -- what stands in two parts stands part by part
-pub parted : (code : List Entry) (p q : ℕ) (a b : List Entry) → Stands code p (a ++ b) q → (mid : ℕ) × Stands code p a mid × Stands code mid b q
-parted code p q [] b h = (p, refl, h)
-parted code p q (e ∷ a) b h = let r = parted code (suc p) q a b h.1 in (r.0, (h.0, r.1), r.2)
+pub split : (code : List Entry) (p q : ℕ) (a b : List Entry) → Stands code p (a ++ b) q → (mid : ℕ) × Stands code p a mid × Stands code mid b q
+split code p q [] b h = (p, refl, h)
+split code p q (e ∷ a) b h = let r = split code (suc p) q a b h.1 in (r.0, (h.0, r.1), r.2)
 
 -- a list stands in itself behind its front
 pub stands_behind : (es pre : List Entry) → Stands (pre ++ es) (length pre) es (length (pre ++ es))
@@ -46,11 +46,11 @@ function_at p n code (x ∷ fs) [] a q h f function frame is at = absurd (none f
 function_at p n code (x ∷ fs) (y ∷ gs) a q h zero function frame is at =
     let e : x ≡ function = cc in
     let e' : y ≡ frame = cc in
-    let i = parted code a q (function_steps (layout p n y.first) (Returns y.result y.ret) x (y.first + sizes x.variables) y.label) (other_steps p n fs gs) h in
+    let i = split code a q (function_steps (layout p n y.first) (Returns y.result y.ret) x (y.first + sizes x.variables) y.label) (other_steps p n fs gs) h in
     let this : FunctionAt p n code x y = record { place = a; behind = i.0; stands = i.1 } in
     subst (λ y. FunctionAt p n code function y) e' (subst (λ x. FunctionAt p n code x y) e this)
 function_at p n code (x ∷ fs) (y ∷ gs) a q h (suc f) function frame is at =
-    let i = parted code a q (function_steps (layout p n y.first) (Returns y.result y.ret) x (y.first + sizes x.variables) y.label) (other_steps p n fs gs) h in
+    let i = split code a q (function_steps (layout p n y.first) (Returns y.result y.ret) x (y.first + sizes x.variables) y.label) (other_steps p n fs gs) h in
     function_at p n code fs gs i.0 q i.2 f function frame is at
 
 -- the statements of `main`
@@ -68,15 +68,15 @@ module _ (p : Program) (n : ℕ) where
   -- a program's functions stand in its statements
   pub functions_stand : (f : ℕ) (function : Function) (frame : Frame) → slice_get p.functions f ≡ Some function → slice_get (program_frames p) f ≡ Some frame → FunctionAt p n code function frame
   functions_stand f function frame is at =
-      let h = parted code 0 (length code) (all_steps p n) (trap_steps p n) all_stand in
-      let i = parted code 0 h.0 (main_steps p n p.main) (other_steps p n p.functions (program_frames p)) h.1 in
+      let h = split code 0 (length code) (all_steps p n) (trap_steps p n) all_stand in
+      let i = split code 0 h.0 (main_steps p n p.main) (other_steps p n p.functions (program_frames p)) h.1 in
       function_at p n code p.functions (program_frames p) i.0 h.0 i.2 f function frame is at
 
   -- and so does `main`, from the beginning
   pub main_stands : (main : Function) → p.main ≡ Some main → MainAt p n code main
   main_stands main is =
-      let h = parted code 0 (length code) (all_steps p n) (trap_steps p n) all_stand in
-      let i = parted code 0 h.0 (main_steps p n p.main) (other_steps p n p.functions (program_frames p)) h.1 in
+      let h = split code 0 (length code) (all_steps p n) (trap_steps p n) all_stand in
+      let i = split code 0 h.0 (main_steps p n p.main) (other_steps p n p.functions (program_frames p)) h.1 in
       record { behind = i.0; stands = subst (λ m. Stands code 0 (main_steps p n m) i.0) is i.1 }
 
 -- ---- the trap

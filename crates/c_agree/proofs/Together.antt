@@ -21,6 +21,7 @@ use Rattle.c_tree.specs.Lowered.{Halts, lowered}
 use Rattle.c_tree.specs.Counts.{data_of}
 use Rattle.c_tree.specs.AgreeIr.{AgreeIr}
 use Rattle.c_lowered.specs.Sound.{Sound}
+use Rattle.c_promise.proofs.Lax.{run_lax}
 use Rattle.c_agree.proofs.World.{Machine, Ground, IsGround, IsBody, Fits, Met, CallsMet, env}
 use Rattle.c_agree.proofs.Grounds.{ground_of}
 use Rattle.c_agree.proofs.Bodies.{main_body, main_begins}
@@ -31,10 +32,6 @@ use Rattle.c_agree.proofs.Unbroken.{outcome_unbroken}
 abbrev pub MainMet : (p : Program) (n : ℕ) → Sound p n → Type 0
 MainMet p n sound = (body : IsBody (ground_of p n sound) Halts sound.main 0) (d : ℕ) (st : source.State) (m : Machine) → Fits (ground_of p n sound) d st m 0
     → Met (ground_of p n sound) 0 st.out m st.turns (run_body (env (ground_of p n sound) body.here (call p n d) d) sound.main.body (λ z. stopped stops.Ended) st)
-
--- where statements break no promise, the machine that watches them is the machine
-abbrev pub IsLax : Type 0
-IsLax = (arrays : Arrays) (entries : List Entry) (n m : ℕ) (s : Machine) → ((run (strict.step arrays entries n) m s).stop ≡ broken → ⊥) → run (strict.step arrays entries n) m s ≡ run (statements.step entries n) m s
 
 module _ (p : Program) (n : ℕ) (sound : Sound p n) (main_met : MainMet p n sound) where
   abbrev g : Ground
@@ -63,16 +60,15 @@ module _ (p : Program) (n : ℕ) (sound : Sound p n) (main_met : MainMet p n sou
       by_case o unbroken (Stopped same) = unbroken (ap (λ o. o.stop) (sym same) ∙ e)
       by_case o unbroken (Further running more out) = let no : stops.Running ≡ stops.Trap 256 = sym running ∙ e in cc
 
-  module _ (lax : IsLax) where
-    met_lax : (input : List ℤ) → All (IsNumber n) input → (turns : ℕ) → Meets (statements.step g.code n) g.weight 0 [] (statements.beginning (lowered p n) input) turns (outcome p n input turns)
-    met_lax input numbers turns =
-        let h = met input numbers turns in
-        let begin = statements.beginning (lowered p n) input in
-        let same = lax g.arrays g.code n h.steps begin (λ e. outcome_unbroken p n input turns (ap (λ o. o.stop) (sym h.same) ∙ e)) in
-        record { steps = h.steps; enough = h.enough; same = ap (λ o. record { out = o.out; stop = o.stop }) (sym same) ∙ h.same }
+  met_lax : (input : List ℤ) → All (IsNumber n) input → (turns : ℕ) → Meets (statements.step g.code n) g.weight 0 [] (statements.beginning (lowered p n) input) turns (outcome p n input turns)
+  met_lax input numbers turns =
+      let h = met input numbers turns in
+      let begin = statements.beginning (lowered p n) input in
+      let same = run_lax g.arrays g.code n h.steps begin (λ e. outcome_unbroken p n input turns (ap (λ o. o.stop) (sym h.same) ∙ e)) in
+      record { steps = h.steps; enough = h.enough; same = ap (λ o. record { out = o.out; stop = o.stop }) (sym same) ∙ h.same }
 
-    -- the statements print and stop as the program does
-    pub agrees : AgreeIr (lowered p n) p n
-    agrees input numbers =
-        agree_sym (outcome p n input) (statements.outcome (lowered p n) n input)
-        (agree_met (statements.step g.code n) g.weight 0 (statements.beginning (lowered p n) input) (outcome p n input) (omega arith) (λ turns. met_lax input numbers turns))
+  -- the statements print and stop as the program does
+  pub agrees : AgreeIr (lowered p n) p n
+  agrees input numbers =
+      agree_sym (outcome p n input) (statements.outcome (lowered p n) n input)
+      (agree_met (statements.step g.code n) g.weight 0 (statements.beginning (lowered p n) input) (outcome p n input) (omega arith) (λ turns. met_lax input numbers turns))
