@@ -7,13 +7,16 @@ use Rattle.c_tree.specs.Code.{Frame, one_if}
 use Rattle.c_tree.specs.Lowered.{command_cells, own_cells, all_cells, frame, frames, cells_of_all, marks_of_all, function_marks, main_cells, main_marks, program_frames, first_constant}
 use Rattle.c_agree.proofs.Places.{Block, total, whole, start, cell, block_at, Room}
 
+-- a block for each function, with the ranks from this one on
 abbrev pub function_blocks : (rank : ℕ → ℕ) → List Function → List Block
 function_blocks rank [] = []
 function_blocks rank (f ∷ fs) = record { variables = sizes f.variables; room = all_cells f; rank = rank 0 } ∷ function_blocks (λ i. rank (suc i)) fs
 
+-- the globals are all of their block
 abbrev pub global_block : Program → Block
 global_block p = record { variables = global_cells p; room = global_cells p; rank = 0 }
 
+-- `main` has the top rank
 abbrev pub main_block : Program → ℕ → Block
 main_block p top = record { variables = function_cells (main_functions p.main); room = main_cells p.main; rank = top }
 
@@ -33,7 +36,6 @@ functions_room rank (f ∷ fs) = (omega arith, functions_room (λ i. rank (suc i
 pub room_of : (p : Program) (rank : ℕ → ℕ) (top : ℕ) → Room (blocks_of p rank top)
 room_of p rank top = (omega arith, (main_room p.main, functions_room rank p.functions))
 
--- block 2 + f is that of function f
 blocks_length : (rank : ℕ → ℕ) (fs : List Function) → length (function_blocks rank fs) ≡ length fs
 blocks_length rank [] = refl
 blocks_length rank (f ∷ fs) = ap suc (blocks_length (λ i. rank (suc i)) fs)
@@ -41,17 +43,19 @@ blocks_length rank (f ∷ fs) = ap suc (blocks_length (λ i. rank (suc i)) fs)
 none : {X : Type 0} (x : X) → None ≡ Some x → ⊥
 none x e = cc
 
+-- a function has a block
 pub has_block : (rank : ℕ → ℕ) (fs : List Function) (f : ℕ) (function : Function) → slice_get fs f ≡ Some function → f < length (function_blocks rank fs)
 has_block rank [] f function is = absurd (none function is)
 has_block rank (g ∷ fs) zero function is = omega arith
 has_block rank (g ∷ fs) (suc f) function is = omega (arith, has_block (λ i. rank (suc i)) fs f function is)
 
+-- with its variables, all its cells and its rank
 pub block_is : (rank : ℕ → ℕ) (fs : List Function) (f : ℕ) (function : Function) → slice_get fs f ≡ Some function → block_at (function_blocks rank fs) f ≡ record { variables = sizes function.variables; room = all_cells function; rank = rank f }
 block_is rank [] f function is = absurd (none function is)
 block_is rank (g ∷ fs) zero function is = let e : g ≡ function = cc in ap (λ (g : Function). record { variables = sizes g.variables; room = all_cells g; rank = rank 0 }) e
 block_is rank (g ∷ fs) (suc f) function is = block_is (λ i. rank (suc i)) fs f function is
 
--- where its variables begin in the memory, and its cells
+-- where the variables of a function begin in the memory, and where its cells begin
 starts : (rank : ℕ → ℕ) (fs : List Function) (f : ℕ) (function : Function) → slice_get fs f ≡ Some function → start (function_blocks rank fs) f ≡ function_cells (take f fs)
 starts rank [] f function is = absurd (none function is)
 starts rank (g ∷ fs) zero function is = refl
@@ -77,6 +81,7 @@ frame_at c l (g ∷ fs) (suc f) function is =
     ∙ ap (λ l. Some (frame (c + (all_cells g + cells_of_all (take f fs))) l function)) b
 
 module _ (p : Program) (rank : ℕ → ℕ) (top : ℕ) where
+  -- the blocks
   abbrev bs : List Block
   bs = blocks_of p rank top
 
@@ -84,12 +89,14 @@ module _ (p : Program) (rank : ℕ → ℕ) (top : ℕ) where
   abbrev pub frame_of_block : ℕ → Function → Frame
   frame_of_block f function = frame (cell bs (suc (suc f))) (main_marks p.main + marks_of_all (take f p.functions)) function
 
+  -- a function's variables in the memory begin where its block does
   pub start_is : (f : ℕ) (function : Function) → slice_get p.functions f ≡ Some function → base_of p f ≡ start bs (suc (suc f))
   start_is f function is = let e = starts rank p.functions f function is in omega (arith, e)
 
   cell_is : (f : ℕ) (function : Function) → slice_get p.functions f ≡ Some function → global_cells p + main_cells p.main + cells_of_all (take f p.functions) ≡ cell bs (suc (suc f))
   cell_is f function is = let e = cell_starts rank p.functions f function is in omega (arith, e)
 
+  -- a function's frame begins where its block does
   pub frame_is : (f : ℕ) (function : Function) → slice_get p.functions f ≡ Some function → slice_get (program_frames p) f ≡ Some (frame_of_block f function)
   frame_is f function is =
       frame_at (global_cells p + main_cells p.main) (main_marks p.main) p.functions f function is

@@ -80,6 +80,7 @@ module _ (p : Program) (n : ℕ) (sound : Sound p n) where
 
   -- ---- `main`
 
+  -- the body of `main`, behind the first mark
   pub main_body : IsBody (ground_of p n sound) Halts sound.main 0
   main_body =
       let stands = main_stands p n sound.main sound.main_is in
@@ -88,10 +89,10 @@ module _ (p : Program) (n : ℕ) (sound : Sound p n) where
       record {
         here = here_at p n sound sound.top true sound.main (main_base p) (global_cells p) 0 false;
         is_here = is_here_at p n sound 1 (omega arith) sound.top true sound.main (main_base p) (global_cells p) 0 false (omega arith) (omega arith) variables (omega (arith, cells)) refl
-        (λ e. let e' : false ≡ true = e in absurd cc)
-        (λ x h. inside_left (arrays_among 0 (map (λ v. v.shape) p.globals) ++ arrays_of_main (global_cells p) p.main) (arrays_of_functions p.functions (program_frames p)) x
-        (inside_right (arrays_among 0 (map (λ v. v.shape) p.globals)) (arrays_of_main (global_cells p) p.main) x
-        (subst (λ m. is_inside (arrays_of_main (global_cells p) m) x ≡ true) (sym sound.main_is) h)));
+            (λ e. let e' : false ≡ true = e in absurd cc)
+            (λ x h. inside_left (arrays_among 0 (map (λ v. v.shape) p.globals) ++ arrays_of_main (global_cells p) p.main) (arrays_of_functions p.functions (program_frames p)) x
+            (inside_right (arrays_among 0 (map (λ v. v.shape) p.globals)) (arrays_of_main (global_cells p) p.main) x
+            (subst (λ m. is_inside (arrays_of_main (global_cells p) m) x ≡ true) (sym sound.main_is) h)));
         sound = sound.main_sound;
         main = refl;
         gives = refl;
@@ -109,11 +110,12 @@ module _ (p : Program) (n : ℕ) (sound : Sound p n) where
   pub main_mark : slice_get (program_entries p n) 0 ≡ Some (Mark 0)
   main_mark = (main_stands p n sound.main sound.main_is).stands.0
 
-  -- its variables come behind the globals, and it has the highest rank
+  -- its variables come behind the globals
   pub main_begins : main_body.here.source_base ≡ main_base p
   unfolding main_body
   main_begins = refl
 
+  -- it has the highest rank
   pub main_rank : main_body.here.rank ≡ sound.top
   unfolding main_body
   main_rank = refl

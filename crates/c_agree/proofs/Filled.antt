@@ -27,10 +27,12 @@ zero_number n = below_power (2 ^ (n - 1)) (2 ^ n) (pow_pos (n - 1))
 
 -- ---- cells that are filled
 
+-- there are as many cells as before
 pub length-filled : (start : List (ℕ × ℤ)) (cells : List ℤ) → length (filled cells start) ≡ length cells
 length-filled [] cells = refl
 length-filled ((k, z) ∷ start) cells = length-filled start (slice_set cells k z) ∙ length-set cells k z
 
+-- one after the other is filled
 pub filled_append : (xs ys : List (ℕ × ℤ)) (cells : List ℤ) → filled cells (xs ++ ys) ≡ filled (filled cells xs) ys
 filled_append [] ys cells = refl
 filled_append ((k, z) ∷ xs) ys cells = filled_append xs ys (slice_set cells k z)
@@ -40,20 +42,23 @@ abbrev pub Lies : (from to : ℕ) → List (ℕ × ℤ) → Type 0
 Lies from to [] = Unit {0}
 Lies from to ((k, z) ∷ start) = (from ≤ k) × (k < to) × Lies from to start
 
+-- two lists that lie there lie there together
 pub lies_append : (from to : ℕ) (xs ys : List (ℕ × ℤ)) → Lies from to xs → Lies from to ys → Lies from to (xs ++ ys)
 lies_append from to [] ys h i = i
 lies_append from to ((k, z) ∷ xs) ys h i = (h.0, h.1, lies_append from to xs ys h.2 i)
 
+-- what lies there lies in more
 pub lies_wider : (from to from' to' : ℕ) (xs : List (ℕ × ℤ)) → from' ≤ from → to ≤ to' → Lies from to xs → Lies from' to' xs
 lies_wider from to from' to' [] le le' h = tt
 lies_wider from to from' to' ((k, z) ∷ xs) le le' h = (omega (arith, h.0), omega (arith, h.1), lies_wider from to from' to' xs le le' h.2)
 
--- a cell outside is as it was
+-- a cell before them is as it was
 pub filled_before : (from to : ℕ) (start : List (ℕ × ℤ)) (cells : List ℤ) (k : ℕ) → Lies from to start → k < from → at (filled cells start) k ≡ at cells k
 filled_before from to [] cells k h lt = refl
 filled_before from to ((j, z) ∷ start) cells k h lt =
     filled_before from to start (slice_set cells j z) k h.2 lt ∙ get_or-set_other cells j k z (pos 0) (λ e. omega (arith, e, h.0, lt))
 
+-- nor is one behind them
 pub filled_behind : (from to : ℕ) (start : List (ℕ × ℤ)) (cells : List ℤ) (k : ℕ) → Lies from to start → to ≤ k → at (filled cells start) k ≡ at cells k
 filled_behind from to [] cells k h le = refl
 filled_behind from to ((j, z) ∷ start) cells k h le =
@@ -73,6 +78,7 @@ zero_is (pos k) e = let h : (k == 0) ≡ true = by_test (k == 0) refl e in ap po
     by_test false i e = absurd cc
 zero_is (negsuc k) e = absurd cc
 
+-- they lie in as many cells as there are values
 pub given_lies : (n c : ℕ) (zs : List ℤ) → Lies c (c + length zs) (given n c zs)
 given_lies n c [] = tt
 given_lies n c (z ∷ zs) = by_test (not (is_zero z)) (lies_wider (c + 1) (c + 1 + length zs) c (c + length (z ∷ zs)) (given n (c + 1) zs) (omega arith) (omega arith) (given_lies n (c + 1) zs))
@@ -123,9 +129,11 @@ map_append f (x ∷ xs) ys = ap (λ l. f x ∷ l) (map_append f xs ys)
 initially_more : (n c : ℕ) (v : GlobalVariable) (vs : List GlobalVariable) → initially n c (v ∷ vs) ≡ given n c v.initial ++ initially n (c + size v.shape) vs
 initially_more n c v vs = map_append _ (filter (λ (k, z). not (is_zero z)) (numbered c v.initial)) (initial_among (c + size v.shape) vs)
 
+-- the cells of the globals
 abbrev pub cells_of : List GlobalVariable → ℕ
 cells_of vs = sizes (map (λ v. v.shape) vs)
 
+-- they lie in the cells of the globals
 pub initially_lies : (n c : ℕ) (vs : List GlobalVariable) → All (SoundGlobal n) vs → Lies c (c + cells_of vs) (initially n c vs)
 initially_lies n c [] sound = tt
 initially_lies n c (v ∷ vs) sound =
@@ -206,6 +214,7 @@ given_number n zs all k = by_test (nat_lt k (length zs)) refl
     by_test true e = all k (pos 0) (ltb-true k (length zs) e)
     by_test false e = subst (IsNumber n) (sym (get_or_past zs k (pos 0) (let h = ltb-false k (length zs) e in omega (arith, h)))) (zero_number n)
 
+-- what the memory has at the start are numbers
 pub initial_number : (n : ℕ) (vs : List GlobalVariable) → All (SoundGlobal n) vs → (k : ℕ) → IsNumber n (at (flat_map initial_cells vs) k)
 initial_number n [] sound k = subst (IsNumber n) (sym (get_or_past [] k (pos 0) (omega arith))) (zero_number n)
 initial_number n (v ∷ vs) sound k = by_test (nat_lt k (size v.shape)) refl (λ i. initial_number n vs (λ k d lt. sound (suc k) d (omega arith)) i)
@@ -221,6 +230,7 @@ initial_number n (v ∷ vs) sound k = by_test (nat_lt k (size v.shape)) refl (λ
         let le = ltb-false k (size v.shape) e in
         subst (IsNumber n) (sym (get_or-append_right (initial_cells v) (flat_map initial_cells vs) (size v.shape) k (pos 0) (length-initial v) (omega (arith, le)))) (rest (k - size v.shape))
 
+-- the globals' part of the memory has their cells
 pub length-initially : (vs : List GlobalVariable) → length (flat_map initial_cells vs) ≡ cells_of vs
 length-initially [] = refl
 length-initially (v ∷ vs) = length-append (initial_cells v) (flat_map initial_cells vs) ∙ ap (λ n. n + length (flat_map initial_cells vs)) (length-initial v) ∙ ap (λ n. size v.shape + n) (length-initially vs)

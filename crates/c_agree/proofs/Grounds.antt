@@ -30,9 +30,11 @@ abbrev pub Once : Program → ℕ → Type 0
 Once p n = (k l : ℕ) → slice_get (program_entries p n) k ≡ Some (Mark l) → place_of (program_entries p n) l ≡ Some k
 
 module _ (p : Program) (n : ℕ) (sound : Sound p n) where
+  -- the blocks, with the ranks that are known
   abbrev pub bs : List Block
   bs = blocks_of p sound.rank sound.top
 
+  -- the statements, and how the program lies in them
   abbrev pub ground_of : Ground
   ground_of = record {
     code = program_entries p n;
@@ -50,6 +52,7 @@ module _ (p : Program) (n : ℕ) (sound : Sound p n) where
     source_base = base_of p;
   }
 
+  -- the same by a short name
   abbrev g : Ground
   g = ground_of
 
@@ -120,6 +123,7 @@ module _ (p : Program) (n : ℕ) (sound : Sound p n) where
         two = λ gives same. let one : one_if function.gives ≡ 1 = ap one_if gives in let same' : frame.ret ≡ frame.result = ap (λ (x : Frame). x.ret) (sym e) ∙ same ∙ ap (λ (x : Frame). x.result) e in omega (arith, one, same');
       }
 
+  -- what functions that run there ask for
   pub is_ground : data_of p n ≤ 65536 → Once p n → IsGround ground_of
   is_ground small once = record {
     width = sound.width;
@@ -139,6 +143,7 @@ module _ (p : Program) (n : ℕ) (sound : Sound p n) where
       inside_left (arrays_among 0 (map (λ v. v.shape) p.globals) ++ arrays_of_main (global_cells p) p.main) (arrays_of_functions p.functions (program_frames p)) k
       (inside_left (arrays_among 0 (map (λ v. v.shape) p.globals)) (arrays_of_main (global_cells p) p.main) k h)
 
+  -- a function whose variables begin with b in the memory and with c among the cells
   abbrev pub here_at : (rank : ℕ) (is_main : Bool) (function : Function) (b c ret : ℕ) (returns : Bool) → Here
   here_at rank is_main function b c ret returns = record {
     rank = rank;

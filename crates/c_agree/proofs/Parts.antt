@@ -59,6 +59,7 @@ pub record MainAt (p : Program) (n : ℕ) (code : List Entry) (main : Function) 
   pub stands : Stands code 0 (function_steps (layout p n (global_cells p)) Halts main (global_cells p + sizes main.variables) 0) behind
 
 module _ (p : Program) (n : ℕ) where
+  -- the statements
   abbrev code : List Entry
   code = program_entries p n
 

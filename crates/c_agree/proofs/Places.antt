@@ -34,6 +34,7 @@ cell [] i = 0
 cell (b ∷ bs) zero = 0
 cell (b ∷ bs) (suc i) = b.room + cell bs i
 
+-- a block by its number
 abbrev pub block_at : List Block → ℕ → Block
 block_at [] i = record { variables = 0; room = 0; rank = 0 }
 block_at (b ∷ bs) zero = b

@@ -35,6 +35,7 @@ or_true : (b : Bool) → (b || true) ≡ true
 or_true true = refl
 or_true false = refl
 
+-- or inside the other
 pub inside_right : (xs ys : Arrays) (k : ℕ) → is_inside ys k ≡ true → is_inside (xs ++ ys) k ≡ true
 inside_right xs ys k h = list_any-append _ xs ys ∙ ap (λ b. is_inside xs k || b) h ∙ or_true (is_inside xs k)
 

@@ -34,6 +34,7 @@ MainMet p n sound = (body : IsBody (ground_of p n sound) Halts sound.main 0) (d 
     → Met (ground_of p n sound) 0 st.out m st.turns (run_body (env (ground_of p n sound) body.here (call p n d) d) sound.main.body (λ z. stopped stops.Ended) st)
 
 module _ (p : Program) (n : ℕ) (sound : Sound p n) (main_met : MainMet p n sound) where
+  -- the statements, and how the program lies in them
   abbrev g : Ground
   g = ground_of p n sound
 

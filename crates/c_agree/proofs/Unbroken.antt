@@ -13,11 +13,13 @@ use Rattle.c_tree.specs.Meaning.{State, Next, NextOf, Calls, Frame, Exits, held,
 abbrev pub Unbroken : Outcome → Type 0
 Unbroken o = o.stop ≡ broken → ⊥
 
-abbrev pub Goes_unbroken : Next → Type 0
-Goes_unbroken next = (s : State) → Unbroken (next s)
+-- from no state on
+abbrev pub GoesUnbroken : Next → Type 0
+GoesUnbroken next = (s : State) → Unbroken (next s)
 
-abbrev pub Values_unbroken : NextOf → Type 0
-Values_unbroken next = (z : ℤ) (s : State) → Unbroken (next z s)
+-- from no value and no state on
+abbrev pub ValuesUnbroken : NextOf → Type 0
+ValuesUnbroken next = (z : ℤ) (s : State) → Unbroken (next z s)
 
 running : (s : State) → Unbroken (stopped stops.Running s)
 running s e = let e' : stops.Running ≡ stops.Trap 256 = e in cc
@@ -31,27 +33,28 @@ trap s e = let e' : stops.Trap 1 ≡ stops.Trap 256 = e in cc
 ended : (s : State) → Unbroken (stopped stops.Ended s)
 ended s e = let e' : stops.Ended ≡ stops.Trap 256 = e in cc
 
-either_unbroken : (b : Bool) (next other : Next) → Goes_unbroken next → Goes_unbroken other → Goes_unbroken (either b next other)
+either_unbroken : (b : Bool) (next other : Next) → GoesUnbroken next → GoesUnbroken other → GoesUnbroken (either b next other)
 either_unbroken true next other h i s = h s
 either_unbroken false next other h i s = i s
 
-paid_unbroken : (t : ℕ) (next : Next) → Goes_unbroken next → Goes_unbroken (paid t next)
+paid_unbroken : (t : ℕ) (next : Next) → GoesUnbroken next → GoesUnbroken (paid t next)
 paid_unbroken zero next h s = running s
 paid_unbroken (suc t) next h s = h (record s { turns = t })
 
-pay_unbroken : (next : Next) → Goes_unbroken next → Goes_unbroken (pay next)
+pay_unbroken : (next : Next) → GoesUnbroken next → GoesUnbroken (pay next)
 pay_unbroken next h s = paid_unbroken s.turns next h s
 
-take_unbroken : (zs : List ℤ) (next : NextOf) → Values_unbroken next → Goes_unbroken (take_next zs next)
+take_unbroken : (zs : List ℤ) (next : NextOf) → ValuesUnbroken next → GoesUnbroken (take_next zs next)
 take_unbroken [] next h s = wants s
 take_unbroken (z ∷ zs) next h s = h z (record s { input = zs })
 
-tested_unbroken : (n : ℕ) (next : ℕ → Next) → ((j : ℕ) → Goes_unbroken (next j)) → Values_unbroken (tested n next)
+tested_unbroken : (n : ℕ) (next : ℕ → Next) → ((j : ℕ) → GoesUnbroken (next j)) → ValuesUnbroken (tested n next)
 tested_unbroken n next h z s = either_unbroken (int_le (pos 0) z && int_lt z (pos n)) (next (unsigned_abs z)) (stopped (stops.Trap 1)) (h (unsigned_abs z)) trap s
 
-module _ (f : Frame) (calls_unbroken : (g : ℕ) (zs : List ℤ) (next : NextOf) → Values_unbroken next → Goes_unbroken (f.calls g zs next)) where
+module _ (f : Frame) (calls_unbroken : (g : ℕ) (zs : List ℤ) (next : NextOf) → ValuesUnbroken next → GoesUnbroken (f.calls g zs next)) where
   mutual
-    pub value_unbroken : (e : Term) (next : NextOf) → Values_unbroken next → Goes_unbroken (value f e next)
+    -- nor does what comes of an expression
+    pub value_unbroken : (e : Term) (next : NextOf) → ValuesUnbroken next → GoesUnbroken (value f e next)
     value_unbroken (Number z) next h s = h _ s
     value_unbroken (Scalar p) next h s = h _ s
     value_unbroken (Element p n i) next h s =
@@ -68,33 +71,36 @@ module _ (f : Frame) (calls_unbroken : (g : ℕ) (zs : List ℤ) (next : NextOf)
     value_unbroken (OrElse x y) next h s =
         value_unbroken x _ (λ a s. either_unbroken (is_true a) _ _ (λ s. h _ s) (λ s. value_unbroken y _ (λ b s. h _ s) s) s) s
 
-    pub values_unbroken : (xs : Terms) (next : List ℤ → Next) → ((zs : List ℤ) → Goes_unbroken (next zs)) → Goes_unbroken (values f xs next)
+    -- nor of arguments
+    pub values_unbroken : (xs : Terms) (next : List ℤ → Next) → ((zs : List ℤ) → GoesUnbroken (next zs)) → GoesUnbroken (values f xs next)
     values_unbroken NoMore next h s = h [] s
     values_unbroken (More x xs) next h s = value_unbroken x _ (λ z s. values_unbroken xs _ (λ zs s. h (z ∷ zs) s) s) s
 
-  loop_unbroken : (n : ℕ) (test : NextOf → Next) (body : Next → Next) (next : Next) → ((to : NextOf) → Values_unbroken to → Goes_unbroken (test to)) → ((more : Next) → Goes_unbroken more → Goes_unbroken (body more)) → Goes_unbroken next
-      → Goes_unbroken (loop n test body next)
+  loop_unbroken : (n : ℕ) (test : NextOf → Next) (body : Next → Next) (next : Next) → ((to : NextOf) → ValuesUnbroken to → GoesUnbroken (test to)) → ((more : Next) → GoesUnbroken more → GoesUnbroken (body more)) → GoesUnbroken next
+      → GoesUnbroken (loop n test body next)
   loop_unbroken zero test body next t b h s = running s
   loop_unbroken (suc n) test body next t b h s =
       pay_unbroken _ (t _ (λ z s. either_unbroken (is_true z) _ _ (b _ (λ s. loop_unbroken n test body next t b h s)) h s)) s
 
-  again_unbroken : (test : NextOf → Next) (body : Next → Next) (next : Next) → ((to : NextOf) → Values_unbroken to → Goes_unbroken (test to)) → ((more : Next) → Goes_unbroken more → Goes_unbroken (body more)) → Goes_unbroken next
-      → Goes_unbroken (again test body next)
+  again_unbroken : (test : NextOf → Next) (body : Next → Next) (next : Next) → ((to : NextOf) → ValuesUnbroken to → GoesUnbroken (test to)) → ((more : Next) → GoesUnbroken more → GoesUnbroken (body more)) → GoesUnbroken next
+      → GoesUnbroken (again test body next)
   again_unbroken test body next t b h s = loop_unbroken (suc s.turns) test body next t b h s
 
-  condition_unbroken : (e : Option Term) (next : NextOf) → Values_unbroken next → Goes_unbroken (condition f e next)
+  condition_unbroken : (e : Option Term) (next : NextOf) → ValuesUnbroken next → GoesUnbroken (condition f e next)
   condition_unbroken None next h s = h _ s
   condition_unbroken (Some e) next h s = value_unbroken e next h s
 
-  pub record Exits_unbroken (exits : Exits) : Type 0 where
-    pub broke : Goes_unbroken exits.broke
-    pub continued : Goes_unbroken exits.continued
-    pub returned : Values_unbroken exits.returned
+  -- none of the ways out stops so
+  pub record ExitsUnbroken (exits : Exits) : Type 0 where
+    pub broke : GoesUnbroken exits.broke
+    pub continued : GoesUnbroken exits.continued
+    pub returned : ValuesUnbroken exits.returned
 
-  inside : (exits : Exits) (next more : Next) → Exits_unbroken exits → Goes_unbroken next → Goes_unbroken more → Exits_unbroken (record exits { broke = next; continued = more })
+  inside : (exits : Exits) (next more : Next) → ExitsUnbroken exits → GoesUnbroken next → GoesUnbroken more → ExitsUnbroken (record exits { broke = next; continued = more })
   inside exits next more e h i = record { broke = h; continued = i; returned = e.returned }
 
-  pub run_unbroken : (x : Command) (exits : Exits) (next : Next) → Exits_unbroken exits → Goes_unbroken next → Goes_unbroken (run f x exits next)
+  -- nor does what comes of a statement
+  pub run_unbroken : (x : Command) (exits : Exits) (next : Next) → ExitsUnbroken exits → GoesUnbroken next → GoesUnbroken (run f x exits next)
   run_unbroken Skip exits next e h s = h s
   run_unbroken (Seq x y) exits next e h s = run_unbroken x exits _ e (λ s. run_unbroken y exits next e h s) s
   run_unbroken (Turn x) exits next e h s = pay_unbroken _ (λ s. run_unbroken x exits next e h s) s
@@ -117,26 +123,26 @@ module _ (f : Frame) (calls_unbroken : (g : ℕ) (zs : List ℤ) (next : NextOf)
       (λ more i s. run_unbroken x (record exits { broke = next; continued = more }) more (inside exits next more e h i) i s) h s
   run_unbroken (Do x v) exits next e h s =
       let behind : Next = again (value f v) (looped (run f x) exits next) next in
-      let goes : Goes_unbroken behind = λ s. again_unbroken (value f v) (looped (run f x) exits next) next (λ to i s. value_unbroken v to i s)
+      let goes : GoesUnbroken behind = λ s. again_unbroken (value f v) (looped (run f x) exits next) next (λ to i s. value_unbroken v to i s)
       (λ more i s. run_unbroken x (record exits { broke = next; continued = more }) more (inside exits next more e h i) i s) h s in
       run_unbroken x (record exits { broke = next; continued = behind }) behind (inside exits next behind e h goes) goes s
   run_unbroken (For v step x) exits next e h s =
       again_unbroken (condition f v) (λ more. looped (run f x) exits next (run f step exits more)) next (λ to i s. condition_unbroken v to i s)
-      (λ more i s. let goes : Goes_unbroken (run f step exits more) = λ s. run_unbroken step exits more e i s in
+      (λ more i s. let goes : GoesUnbroken (run f step exits more) = λ s. run_unbroken step exits more e i s in
       run_unbroken x (record exits { broke = next; continued = run f step exits more }) (run f step exits more) (inside exits next (run f step exits more) e h goes) goes s) h s
   run_unbroken Break exits next e h s = e.broke s
   run_unbroken Continue exits next e h s = e.continued s
   run_unbroken (Return None) exits next e h s = e.returned _ s
   run_unbroken (Return (Some v)) exits next e h s = value_unbroken v exits.returned e.returned s
 
-  body_unbroken : (x : Command) (next : NextOf) → Values_unbroken next → Goes_unbroken (run_body f x next)
+  body_unbroken : (x : Command) (next : NextOf) → ValuesUnbroken next → GoesUnbroken (run_body f x next)
   body_unbroken x next h s = run_unbroken x _ _ (record { broke = h _; continued = h _; returned = h }) (h _) s
 
-  entered_unbroken : (g : Option Function) (zs : List ℤ) (next : NextOf) → Values_unbroken next → Goes_unbroken (entered g f zs next)
+  entered_unbroken : (g : Option Function) (zs : List ℤ) (next : NextOf) → ValuesUnbroken next → GoesUnbroken (entered g f zs next)
   entered_unbroken None zs next h s = h _ s
   entered_unbroken (Some g) zs next h s = body_unbroken g.body next h _
 
-call_unbroken : (p : Program) (n depth : ℕ) (g : ℕ) (zs : List ℤ) (next : NextOf) → Values_unbroken next → Goes_unbroken (call p n depth g zs next)
+call_unbroken : (p : Program) (n depth : ℕ) (g : ℕ) (zs : List ℤ) (next : NextOf) → ValuesUnbroken next → GoesUnbroken (call p n depth g zs next)
 call_unbroken p n zero g zs next h s = running s
 call_unbroken p n (suc depth) g zs next h s = entered_unbroken _ (call_unbroken p n depth) (slice_get p.functions g) zs next h s
 
