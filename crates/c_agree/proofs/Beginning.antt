@@ -1,7 +1,7 @@
 -- The statements of a sound program begin as the program does.
-use Rattle.std.proofs.Common.{◌≡◌, ℕ, zero, suc, ◌+◌, ◌-◌, ◌<◌, ◌≤◌, ℤ, pos, List, [], ◌∷◌, ◌++◌, length, length-append, map, replicate, Bool, true, false, Some, refl, ap, sym, ◌∙◌, subst, arith}
-use Rattle.std.specs.Prelude.{slice_get, flat_map, nat_lt, All, if◌then◌else◌}
-use Rattle.std.proofs.lemmas.Bool.{ltb-true, ltb-false, lt-ltb}
+use Rattle.std.proofs.Common.{◌≡◌, ℕ, ◌+◌, ◌-◌, ◌<◌, ℤ, pos, List, [], ◌∷◌, ◌++◌, length, length-append, map, replicate, Bool, true, false, refl, ap, sym, ◌∙◌, subst, arith}
+use Rattle.std.specs.Prelude.{flat_map, nat_lt, All, if◌then◌else◌}
+use Rattle.std.proofs.lemmas.Bool.{ltb-false}
 use Rattle.std.proofs.lemmas.List.{length-replicate, get_or_past}
 use Rattle.std.proofs.lemmas.Option.{slice_get_within, get_or_from_slice_get}
 use Rattle.ir_core.specs.Operator.{wrap}
@@ -12,10 +12,10 @@ use Rattle.ir_run.specs.Run as statements
 use Rattle.c_tree.specs.Program.{Program}
 use Rattle.c_tree.specs.Meaning.{initial_cells, global_cells, function_cells, all_functions}
 use Rattle.c_tree.specs.Meaning as source
-use Rattle.c_tree.specs.Lowered.{numbered, first_constant, first_base, first_return, first_temporary, homes, constants, arrays, return_labels, lowered}
+use Rattle.c_tree.specs.Lowered.{numbered, first_constant, first_base, first_return, constants, arrays, return_labels, lowered}
 use Rattle.c_lowered.specs.Sound.{Sound}
 use Rattle.c_agree.proofs.World.{Fits}
-use Rattle.c_agree.proofs.Places.{total, whole, home, home_below, home_behind}
+use Rattle.c_agree.proofs.Places.{home, home_below, home_behind}
 use Rattle.c_agree.proofs.Blocks.{global_block, main_block, function_blocks, room_of, whole_is, total_is}
 use Rattle.c_agree.proofs.Grounds.{bs, ground_of}
 use Rattle.c_agree.proofs.Filled.{at, length-filled, filled_append, Lies, lies_wider, filled_before, initially, initially_filled, zeros_at, at_zeros, initial_number, length-initially}

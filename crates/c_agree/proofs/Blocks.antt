@@ -1,10 +1,10 @@
 -- The blocks of a program: the globals, `main`, and each other function, with the functions' frames.
-use Rattle.std.proofs.Common.{◌≡◌, ℕ, zero, suc, ◌+◌, ◌<◌, ◌≤◌, List, [], ◌∷◌, ◌++◌, length, take, Bool, true, false, Option, Some, None, refl, ap, sym, ◌∙◌, arith}
+use Rattle.std.proofs.Common.{◌≡◌, ℕ, zero, suc, ◌+◌, ◌<◌, ◌≤◌, List, [], ◌∷◌, ◌++◌, length, take, Option, Some, None, refl, ap, ◌∙◌, arith}
 use Rattle.std.specs.Prelude.{slice_get}
 use Rattle.c_tree.specs.Program.{sizes, Function, Program}
 use Rattle.c_tree.specs.Meaning.{global_cells, function_cells, main_functions, base_of}
-use Rattle.c_tree.specs.Code.{Frame, one_if}
-use Rattle.c_tree.specs.Lowered.{command_cells, own_cells, all_cells, frame, frames, cells_of_all, marks_of_all, function_marks, main_cells, main_marks, program_frames, first_constant}
+use Rattle.c_tree.specs.Code.{Frame}
+use Rattle.c_tree.specs.Lowered.{all_cells, frame, frames, cells_of_all, marks_of_all, function_marks, main_cells, main_marks, program_frames, first_constant}
 use Rattle.c_agree.proofs.Places.{Block, total, whole, start, cell, block_at, Room}
 
 -- a block for each function, with the ranks from this one on

@@ -1,16 +1,16 @@
 -- The bodies of a sound program's functions in its statements.
-use Rattle.std.proofs.Common.{◌≡◌, ℕ, zero, suc, ◌+◌, ◌<◌, ◌≤◌, List, [], ◌∷◌, ◌++◌, length, map, Bool, true, false, Option, Some, None, refl, ap, sym, ◌∙◌, subst, arith}
+use Rattle.std.proofs.Common.{◌≡◌, ℕ, zero, suc, ◌+◌, ◌≤◌, List, [], ◌∷◌, ◌++◌, map, true, false, Some, None, refl, ap, sym, ◌∙◌, subst, arith}
 use Rattle.std.specs.Prelude.{slice_get}
 use Rattle.ir_run.specs.Entry.{Mark}
 use Rattle.ir_run.specs.Run.{place_of}
 use Rattle.ir_run.specs.Strict.{is_inside}
 use Rattle.c_tree.specs.Program.{sizes, Function, Program}
 use Rattle.c_tree.specs.Meaning.{global_cells, function_cells, main_functions, main_base, base_of}
-use Rattle.c_tree.specs.Code.{Frame, or_no_frame, one_if}
-use Rattle.c_tree.specs.Lowered.{Halts, Returns, own_cells, all_cells, main_cells, arrays_among, arrays_of_main, arrays_of_functions, arrays, program_frames, program_entries}
+use Rattle.c_tree.specs.Code.{Frame, or_no_frame}
+use Rattle.c_tree.specs.Lowered.{Halts, Returns, own_cells, all_cells, main_cells, arrays_among, arrays_of_main, arrays_of_functions, program_frames, program_entries}
 use Rattle.c_lowered.specs.Sound.{Sound}
 use Rattle.c_agree.proofs.World.{IsOwn, IsFunction, IsHere, IsBody, IsCalled, Here, function_frame, payable}
-use Rattle.c_agree.proofs.Places.{cell, block_at}
+use Rattle.c_agree.proofs.Places.{block_at}
 use Rattle.c_agree.proofs.Blocks.{has_block, block_is, frame_of_block, start_is, frame_is}
 use Rattle.c_agree.proofs.Shapes.{inside_left, inside_right, inside_function}
 use Rattle.c_agree.proofs.Parts.{functions_stand, main_stands}

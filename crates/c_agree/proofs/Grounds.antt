@@ -1,5 +1,5 @@
 -- The statements of a sound program as the ground on which its functions run.
-use Rattle.std.proofs.Common.{◌≡◌, ℕ, zero, suc, ◌+◌, ◌-◌, ◌^◌, ◌<◌, ◌≤◌, List, [], ◌∷◌, ◌++◌, length, map, Bool, true, false, Option, Some, None, refl, ap, sym, ◌∙◌, subst, arith}
+use Rattle.std.proofs.Common.{◌≡◌, ℕ, suc, ◌+◌, ◌-◌, ◌^◌, ◌<◌, ◌≤◌, List, [], ◌∷◌, ◌++◌, length, map, Bool, true, Some, None, refl, ap, sym, ◌∙◌, subst, arith}
 use Rattle.std.specs.Prelude.{slice_get, All}
 use Rattle.std.proofs.Math.Pow.{pow_mono}
 use Rattle.ir_run.specs.Entry.{Mark}
@@ -10,13 +10,13 @@ use Rattle.c_tree.specs.declared.meaning.Place.TheVariants as places
 use Rattle.c_tree.specs.Program.{Shape, size, sizes, Function, Program}
 use Rattle.c_tree.specs.Meaning.{global_cells, base_of}
 use Rattle.c_tree.specs.Code.{Frame, or_no_frame, one_if}
-use Rattle.c_tree.specs.Lowered.{own_cells, all_cells, arrays_among, arrays_of_main, arrays_of_functions, arrays, program_frames, trap_label, program_entries, lowered, first_constant, first_temporary}
+use Rattle.c_tree.specs.Lowered.{own_cells, all_cells, arrays_among, arrays_of_main, arrays_of_functions, arrays, program_frames, trap_label, program_entries, lowered}
 use Rattle.c_tree.specs.Counts.{data_of}
-use Rattle.c_lowered.specs.Sound.{IsShape, shape_at, variable_at, IsArray, world, SoundFunction, Sound}
-use Rattle.c_agree.proofs.World.{Ground, IsHome, IsOwn, IsFunction, IsGround, Here, IsHere, IsPlaced, IsLocal, cell_at, function_frame, payable}
+use Rattle.c_lowered.specs.Sound.{IsShape, shape_at, variable_at, IsArray, world, Sound}
+use Rattle.c_agree.proofs.World.{Ground, IsOwn, IsFunction, IsGround, Here, IsHere, IsPlaced, IsLocal, cell_at, function_frame, payable}
 use Rattle.c_agree.proofs.Places.{Block, total, whole, home, start, cell, block_at, owner, Room, room_at, home_at, owner_at, apart, plain, within, block_end, home_below}
 use Rattle.c_agree.proofs.Blocks.{blocks_of, room_of, has_block, block_is, frame_of_block, start_is, frame_is, whole_is}
-use Rattle.c_agree.proofs.Shapes.{shape_below, inside_left, inside_right, inside_among}
+use Rattle.c_agree.proofs.Shapes.{shape_below, inside_left, inside_among}
 use Rattle.c_agree.proofs.Parts.{functions_stand, trap_there}
 use Rattle.c_agree.proofs.DataLaw.{cells_are_data}
 

@@ -1,28 +1,24 @@
 -- A sound program and its statements agree, and no run of the statements breaks a promise.
-use Rattle.std.proofs.Common.{◌≡◌, ℕ, zero, suc, ◌+◌, ◌<◌, ◌≤◌, ℤ, List, [], ◌∷◌, Some, refl, ap, sym, ◌∙◌, subst, arith}
+use Rattle.std.proofs.Common.{◌≡◌, ℕ, ℤ, List, [], ap, sym, ◌∙◌, subst, arith}
 use Rattle.std.specs.Prelude.{All}
 use Rattle.nk_outside.specs.Outcome.{Outcome}
 use Rattle.nk_outside.specs.Agree.{GoesOn, Stopped, Further, Agree}
-use Rattle.nk_outside.specs.declared.stop.Stop.{Stop}
 use Rattle.nk_outside.specs.declared.stop.Stop.TheVariants as stops
 use Rattle.ir_core.specs.Inputs.{IsNumber}
-use Rattle.ir_run.specs.Entry.{Entry}
-use Rattle.ir_run.specs.Runs.{run}
 use Rattle.ir_run.specs.Simulation.{Meets}
 use Rattle.ir_run.specs.Run as statements
 use Rattle.ir_run.specs.Strict as strict
-use Rattle.ir_run.specs.Strict.{broken, Arrays}
+use Rattle.ir_run.specs.Strict.{broken}
 use Rattle.ir_run.specs.Promise.{RunsSafely}
 use Rattle.ir_run.proofs.Agreement.{agree_met, agree_sym}
 use Rattle.c_tree.specs.Program.{Program}
 use Rattle.c_tree.specs.Meaning as source
-use Rattle.c_tree.specs.Meaning.{NextOf, call, run_body, stopped, outcome}
+use Rattle.c_tree.specs.Meaning.{call, run_body, stopped, outcome}
 use Rattle.c_tree.specs.Lowered.{Halts, lowered}
-use Rattle.c_tree.specs.Counts.{data_of}
 use Rattle.c_tree.specs.AgreeIr.{AgreeIr}
 use Rattle.c_lowered.specs.Sound.{Sound}
 use Rattle.c_promise.proofs.Lax.{run_lax}
-use Rattle.c_agree.proofs.World.{Machine, Ground, IsGround, IsBody, Fits, Met, CallsMet, env}
+use Rattle.c_agree.proofs.World.{Machine, Ground, IsBody, Fits, Met, env}
 use Rattle.c_agree.proofs.Grounds.{ground_of}
 use Rattle.c_agree.proofs.Bodies.{main_body, main_begins}
 use Rattle.c_agree.proofs.Beginning.{fits_beginning}

@@ -1,13 +1,12 @@
 -- No program's meaning stops as a broken promise does.
-use Rattle.std.proofs.Common.{◌≡◌, ℕ, zero, suc, ◌+◌, ℤ, pos, List, [], ◌∷◌, ◌++◌, Bool, true, false, Option, Some, None}
+use Rattle.std.proofs.Common.{◌≡◌, ℕ, zero, suc, ◌+◌, ℤ, pos, List, [], ◌∷◌, Bool, true, false, Option, Some, None}
 use Rattle.std.specs.Prelude.{◌&&◌, int_le, int_lt, unsigned_abs, slice_get}
 use Rattle.nk_outside.specs.Outcome.{Outcome}
-use Rattle.nk_outside.specs.declared.stop.Stop.{Stop}
 use Rattle.nk_outside.specs.declared.stop.Stop.TheVariants as stops
 use Rattle.ir_core.specs.Operator.{arithmetic}
 use Rattle.ir_run.specs.Strict.{broken}
 use Rattle.c_tree.specs.Program.{Term, Terms, Number, Scalar, Element, Input, Call, Unary, Shifted, Arithmetic, Compare, Not, AndAlso, OrElse, NoMore, More, Command, Skip, Seq, Turn, Set, Store, Change, Print, Take, Invoke, If, IfElse, While, Do, For, Break, Continue, Return, Function, Program}
-use Rattle.c_tree.specs.Meaning.{State, Next, NextOf, Calls, Frame, Exits, held, put, cell, stopped, paid, pay, take_next, is_true, either, tested, value, values, loop, again, condition, looped, run, with_arguments, run_body, entered, call, main_base, main_body, beginning, outcome}
+use Rattle.c_tree.specs.Meaning.{State, Next, NextOf, Frame, Exits, held, put, cell, stopped, paid, pay, take_next, is_true, either, tested, value, values, loop, again, condition, looped, run, run_body, entered, call, main_body, beginning, outcome}
 
 -- it doesn't stop so
 abbrev pub Unbroken : Outcome → Type 0
