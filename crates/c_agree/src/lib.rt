@@ -3,4 +3,4 @@
 
 mod law;
 
-pub use law::statements_agree_with_the_program;
+pub use law::{no_run_breaks_a_promise, statements_agree_with_the_program};

@@ -1,0 +1,5 @@
+pub mod Lax
+pub mod Labels
+pub mod Once
+pub mod Fit
+pub mod Pieces
