@@ -18,7 +18,7 @@ use Rattle.c_agree.proofs.Places.{Block, total, whole, home, start, cell, block_
 use Rattle.c_agree.proofs.Blocks.{blocks_of, room_of, has_block, block_is, frame_of_block, start_is, frame_is, whole_is}
 use Rattle.c_agree.proofs.Shapes.{shape_below, inside_left, inside_among}
 use Rattle.c_agree.proofs.Parts.{functions_stand, trap_there}
-use Rattle.c_agree.proofs.DataLaw.{cells_are_data}
+use Rattle.c_counted.proofs.Cells.{cells_are_data}
 
 -- the turns that bodies pay for at most, without their loops
 abbrev pub payable_of_all : List Function → ℕ

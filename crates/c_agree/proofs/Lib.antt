@@ -6,7 +6,6 @@ pub mod Places
 pub mod Blocks
 pub mod Shapes
 pub mod Parts
-pub mod DataLaw
 pub mod Grounds
 pub mod Bodies
 pub mod Filled

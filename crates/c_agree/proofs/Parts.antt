@@ -13,21 +13,7 @@ use Rattle.c_tree.specs.Meaning.{global_cells}
 use Rattle.c_tree.specs.Code.{Frame}
 use Rattle.c_tree.specs.Lowered.{Returns, Halts, layout, function_steps, main_steps, other_steps, all_steps, goes_to, trap_steps, trap_label, program_frames, program_entries}
 use Rattle.c_agree.proofs.World.{Stands}
-
--- what stands in two parts stands part by part
-pub split : (code : List Entry) (p q : ℕ) (a b : List Entry) → Stands code p (a ++ b) q → (mid : ℕ) × Stands code p a mid × Stands code mid b q
-split code p q [] b h = (p, refl, h)
-split code p q (e ∷ a) b h = let r = split code (suc p) q a b h.1 in (r.0, (h.0, r.1), r.2)
-
--- a list stands in itself behind its front
-pub stands_behind : (es pre : List Entry) → Stands (pre ++ es) (length pre) es (length (pre ++ es))
-stands_behind [] pre = ap length (sym (append-nil pre))
-stands_behind (e ∷ es) pre =
-    let within : length pre < length (pre ++ e ∷ es) = omega (arith, length-append pre (e ∷ es)) in
-    let here = slice_get-get_or (pre ++ e ∷ es) (length pre) e within ∙ ap Some (get_or-append_seam pre e es e) in
-    let n : length (pre ++ e ∷ []) ≡ suc (length pre) = omega (arith, length-append pre (e ∷ [])) in
-    let rest = subst (λ l. Stands l (length (pre ++ e ∷ [])) es (length l)) (append_assoc pre (e ∷ []) es) (stands_behind es (pre ++ e ∷ [])) in
-    (here, subst (λ k. Stands (pre ++ e ∷ es) k es (length (pre ++ e ∷ es))) n rest)
+use Rattle.c_agree.proofs.Stands.{split, stands_behind}
 
 -- ---- functions
 

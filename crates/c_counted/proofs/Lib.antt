@@ -1,4 +1,4 @@
-mod Cells
+pub mod Cells
 mod Calls
 mod Nodes
 pub mod Wrapping
