@@ -1,0 +1,14 @@
+pub mod Evaluation
+pub mod Frame
+pub mod Stands
+pub mod World
+pub mod Places
+pub mod Blocks
+pub mod Shapes
+pub mod Parts
+pub mod Grounds
+pub mod Bodies
+pub mod Filled
+pub mod Beginning
+pub mod Unbroken
+pub mod Together
