@@ -12,3 +12,8 @@ pub mod Filled
 pub mod Beginning
 pub mod Unbroken
 pub mod Together
+pub mod Simple
+pub mod Loops
+pub mod Execution
+pub mod Calls
+pub mod Whole

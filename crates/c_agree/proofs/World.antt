@@ -1,7 +1,7 @@
 -- The statements' machine beside the program: which cell stands for which variable, what a place of the list fits, and what a part of the program leaves
 -- as it is.
-use Rattle.std.proofs.Common.{◌≡◌, ℕ, zero, suc, ◌+◌, ◌^◌, ◌<◌, ◌≤◌, ℤ, List, [], ◌∷◌, ◌++◌, Bool, true, false, Option, Some, None, length}
-use Rattle.std.specs.Prelude.{slice_get, pos, All}
+use Rattle.std.proofs.Common.{◌≡◌, ℕ, suc, ◌+◌, ◌^◌, ◌<◌, ◌≤◌, ℤ, List, [], ◌∷◌, ◌++◌, Bool, true, false, Some, length}
+use Rattle.std.specs.Prelude.{slice_get, pos}
 use Rattle.nk_outside.specs.Outcome.{Outcome}
 use Rattle.ir_core.specs.Inputs.{IsNumber}
 use Rattle.ir_core.specs.declared.relation.Rel.{Rel}
@@ -21,7 +21,7 @@ use Rattle.c_tree.specs.declared.meaning.Place.TheVariants as places
 use Rattle.c_tree.specs.Program.{Term, Terms, Command, Skip, Seq, Turn, Set, Store, Change, Print, Take, Invoke, If, IfElse, While, Do, For, Break, Continue, Return, Shape, size, Function}
 use Rattle.c_tree.specs.Meaning as source
 use Rattle.c_tree.specs.Meaning.{Calls, Next, NextOf, with_arguments, is_true, tested, value, values}
-use Rattle.c_tree.specs.Code.{Frame, Layout, Aim, Value, When, Unless, is_value, side, cells, argument_cells, has_call, have_call, or_no_frame, jump_steps, is_below_length, Passing, piece, passing}
+use Rattle.c_tree.specs.Code.{Frame, Layout, Aim, Value, When, Unless, is_value, side, cells, argument_cells, has_call, have_call, or_no_frame, jump_steps, is_below_length, piece, passing}
 use Rattle.c_tree.specs.Lowered.{Leaving, Halts, Returns, command_cells, statements, end_steps}
 use Rattle.c_lowered.specs.Sound.{World, variable_at, IsArray, Answers, count, SoundTerm, SoundTerms, SoundFunction}
 
