@@ -5,6 +5,7 @@ use Rattle.c_tree.specs.Names.{Names, behind_global}
 use Rattle.c_tree.specs.Resolve.{resolved_functions}
 use Rattle.c_shapes.specs.Shapes.{declared, outlined, outlines}
 
+-- whatever names mean before
 pub outlines_are : (s : Names) (gs : List Item) → outlines gs ≡ map declared (resolved_functions s gs)
 outlines_are s [] = refl
 outlines_are s (Variables v ∷ gs) = outlines_are (behind_global s (Variables v)) gs

@@ -1,6 +1,5 @@
-use Rattle.std.proofs.Common.{◌-◌, ◌∙◌, length, take}
+use Rattle.std.proofs.Common.{◌-◌, ◌∙◌, length, sym, take}
 use Rattle.c_shapes.proofs.Returns.{last_apart, ends_declaring, ends_stating}
-use Rattle.std.proofs.Common.{sym}
 use Rattle.c_shapes.proofs.bodies.ends_with_return.Goals as goal
 
 pub returns-in-Decl : goal.returns-in-Decl
