@@ -12,16 +12,19 @@ use Rattle.c_count.specs.Sized.{term_size, terms_size, command_size, sized}
 use Rattle.c_count.specs.Over.{term_of, terms_of, command_of, term_at, terms_at, command_at, counted}
 use Rattle.c_count.proofs.Laws.{scalar_law, arithmetic_law, compare_law, not_law, and_law, or_law, more_law, seq_law, store_law, change_law, if_law, if_else_law, while_law, do_law, forever_law, for_law}
 
+-- what is counted of a part, by what it writes out
 term_of_sized : (w : Written) → term_of (Some (sized w)) ≡ term_size (as_term w)
 term_of_sized (OfTerm t) = refl
 term_of_sized (OfTerms ts) = refl
 term_of_sized (OfCommand c) = refl
 
+-- the same of arguments
 terms_of_sized : (w : Written) → terms_of (Some (sized w)) ≡ terms_size (as_terms w)
 terms_of_sized (OfTerm t) = refl
 terms_of_sized (OfTerms ts) = refl
 terms_of_sized (OfCommand c) = refl
 
+-- the same of a command
 command_of_sized : (w : Written) → command_of (Some (sized w)) ≡ command_size (as_command w)
 command_of_sized (OfTerm t) = refl
 command_of_sized (OfTerms ts) = refl
@@ -32,15 +35,19 @@ pub record FrontCounted (nodes : List Node) (n : ℕ) (f : List Size) : Type 0 w
   pub long : length f ≡ n
   pub each : (k : ℕ) → k < n → slice_get f k ≡ Some (sized (written nodes k))
 
+-- what is found of an expression among the first nodes
 term_is : (nodes : List Node) (n : ℕ) (f : List Size) → FrontCounted nodes n f → (k : ℕ) → k < n → term_at f k ≡ term_size (as_term (written nodes k))
 term_is nodes n f front k h = ap term_of (front.each k h) ∙ term_of_sized (written nodes k)
 
+-- the same of arguments
 terms_are : (nodes : List Node) (n : ℕ) (f : List Size) → FrontCounted nodes n f → (k : ℕ) → k < n → terms_at f k ≡ terms_size (as_terms (written nodes k))
 terms_are nodes n f front k h = ap terms_of (front.each k h) ∙ terms_of_sized (written nodes k)
 
+-- the same of a command
 command_is : (nodes : List Node) (n : ℕ) (f : List Size) → FrontCounted nodes n f → (k : ℕ) → k < n → command_at f k ≡ command_size (as_command (written nodes k))
 command_is nodes n f front k h = ap command_of (front.each k h) ∙ command_of_sized (written nodes k)
 
+-- what is counted of a node over the first nodes is what is counted of what it writes out
 counted_is : (nodes : List Node) (n : ℕ) (f : List Size) → FrontCounted nodes n f → (x : Node) → IsBelow x n → counted x f ≡ sized (one x (written nodes))
 counted_is nodes n f front (node.Number z) b = refl
 counted_is nodes n f front (node.Scalar p) b = ap size.Term (scalar_law p)

@@ -40,40 +40,51 @@ condition call tested later when unless = record {
 abbrev pub before : Bool → (later now : ℕ) → ℕ
 before call later now = if call then later else now
 
+-- a scalar: a global one is saved where a call begins to its right
 abbrev pub scalar_over : Place → TermSize
 scalar_over p = plain false 0 (one_if (is_saved true p)) 0
 
+-- an array's element, over its index
 abbrev pub element_over : TermSize → TermSize
 element_over x = plain x.call (x.cells + 1) (x.later_cells + 1) x.marks
 
+-- a call, over its arguments
 abbrev pub call_over : TermsSize → TermSize
 call_over xs = plain true (xs.cells + 1) (xs.later_cells + 1) (xs.marks + 1)
 
+-- an operator over one value
 abbrev pub value_over : TermSize → TermSize
 value_over x = plain x.call x.cells x.later_cells x.marks
 
+-- an operator over two values
 abbrev pub arithmetic_over : TermSize → TermSize → TermSize
 arithmetic_over x y =
     plain (x.call || y.call) (before y.call x.later_cells x.cells + y.cells) (x.later_cells + y.later_cells) (x.marks + y.marks)
 
+-- a comparison
 abbrev pub compare_over : TermSize → TermSize → TermSize
 compare_over x y =
     condition (x.call || y.call) (before y.call x.later_cells x.cells + y.cells) (x.later_cells + y.later_cells) (x.marks + y.marks) (x.marks + y.marks)
 
+-- `!`
 abbrev pub not_over : TermSize → TermSize
 not_over x = condition x.call x.tested x.later_tested x.marks_unless x.marks_when
 
+-- `&&`
 abbrev pub and_over : TermSize → TermSize → TermSize
 and_over x y =
     condition (x.call || y.call) (before y.call x.later_tested x.tested + y.tested) (x.later_tested + y.later_tested) (x.marks_unless + y.marks_when + 1) (x.marks_unless + y.marks_unless)
 
+-- `||`
 abbrev pub or_over : TermSize → TermSize → TermSize
 or_over x y =
     condition (x.call || y.call) (before y.call x.later_tested x.tested + y.tested) (x.later_tested + y.later_tested) (x.marks_when + y.marks_when) (x.marks_when + y.marks_unless + 1)
 
+-- no arguments
 abbrev pub no_arguments : TermsSize
 no_arguments = record { call = false; cells = 0; later_cells = 0; marks = 0 }
 
+-- an argument, and those behind it
 abbrev pub more_over : TermSize → TermsSize → TermsSize
 more_over x xs = record {
   call = x.call || xs.call;
@@ -82,6 +93,7 @@ more_over x xs = record {
   marks = x.marks + xs.marks;
 }
 
+-- so many step cells and labels
 abbrev pub own : (cells marks : ℕ) → CommandSize
 own cells marks = record { cells = cells; marks = marks }
 
@@ -89,16 +101,19 @@ own cells marks = record { cells = cells; marks = marks }
 abbrev pub joined : CommandSize → CommandSize → (cells marks : ℕ) → CommandSize
 joined x y cells marks = record { cells = x.cells + y.cells + cells; marks = x.marks + y.marks + marks }
 
--- an expression as a value, as a condition that goes on elsewhere where it holds, and where it fails
+-- an expression whose value is used
 abbrev pub as_value : TermSize → CommandSize
 as_value x = own x.cells x.marks
 
+-- as a condition that goes on elsewhere where it holds
 abbrev pub when_holds : TermSize → CommandSize
 when_holds x = own x.tested x.marks_when
 
+-- as a condition that goes on elsewhere where it fails
 abbrev pub when_fails : TermSize → CommandSize
 when_fails x = own x.tested x.marks_unless
 
+-- a call for its effect
 abbrev pub invoke_over : TermsSize → CommandSize
 invoke_over xs = own xs.cells (xs.marks + 1)
 
@@ -109,24 +124,29 @@ term_of (Some (size.Arguments xs)) = plain false 0 0 0
 term_of (Some (size.Command c)) = plain false 0 0 0
 term_of None = plain false 0 0 0
 
+-- the same of arguments
 abbrev pub terms_of : Option Size → TermsSize
 terms_of (Some (size.Term x)) = no_arguments
 terms_of (Some (size.Arguments xs)) = xs
 terms_of (Some (size.Command c)) = no_arguments
 terms_of None = no_arguments
 
+-- the same of a command
 abbrev pub command_of : Option Size → CommandSize
 command_of (Some (size.Term x)) = own 0 0
 command_of (Some (size.Arguments xs)) = own 0 0
 command_of (Some (size.Command c)) = c
 command_of None = own 0 0
 
+-- what is counted of the expression of this number
 abbrev pub term_at : List Size → ℕ → TermSize
 term_at sizes k = term_of (slice_get sizes k)
 
+-- what is counted of the arguments of this number
 abbrev pub terms_at : List Size → ℕ → TermsSize
 terms_at sizes k = terms_of (slice_get sizes k)
 
+-- what is counted of the command of this number
 abbrev pub command_at : List Size → ℕ → CommandSize
 command_at sizes k = command_of (slice_get sizes k)
 

@@ -1,0 +1,4 @@
+pub mod Grown
+pub mod Parts
+pub mod Returns
+pub mod Outlines
