@@ -9,8 +9,8 @@ ghost use Rattle.c_flat.specs.Sorts.{terms_at, command_over};
 
 use crate::code::Code;
 use crate::machine::Machine;
-use c_flat::CommandNode;
 use crate::task::{Expects, Moved, Pending, Repeat, Task};
+use c_flat::CommandNode;
 use nk_base::Memory;
 use nk_outside::Stop;
 

@@ -13,8 +13,8 @@ ghost use Rattle.c_flat.specs.Sorts.{term_at, term_over, terms_over};
 use crate::code::Code;
 use crate::data::{held, scalar_cell};
 use crate::machine::Machine;
-use c_flat::TermNode;
 use crate::task::{Expects, Moved, Pending, Task};
+use c_flat::TermNode;
 use c_tree::Place;
 use nk_base::Memory;
 

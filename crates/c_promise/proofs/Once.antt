@@ -56,6 +56,7 @@ once (Mark j ∷ es) a m at (suc k) l is there = by (counts a m j (marked es) is
     further : (b : Bool) → nat_eq l j ≡ b → j < l → place_from (at + 1) es l ≡ Some (at + 1 + k) → (if b then Some at else place_from (at + 1) es l) ≡ Some (at + suc k)
     further true test lt rest = let same = eqb-true l j test in absurd (omega arith)
     further false test lt rest = rest ∙ ap Some (omega arith)
+
     by : Counts a j (marked es) → ((n : ℕ) → marked es ≡ range_with_len (a + 1) n → place_from (at + 1) es l ≡ Some (at + 1 + k)) → (if nat_eq l j then Some at else place_from (at + 1) es l) ≡ Some (at + suc k)
     by (On n first rest) h = further (nat_eq l j) refl (omega (arith, first, least es (a + 1) n k l rest there)) (h n rest)
 once (Set c t ∷ es) a m at zero l is there = let none : Some (Set c t) ≡ Some (Mark l) = there in cc
