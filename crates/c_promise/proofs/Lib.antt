@@ -3,3 +3,9 @@ pub mod Labels
 pub mod Once
 pub mod Fit
 pub mod Pieces
+pub mod Commands
+pub mod Table
+pub mod Claims
+pub mod Behind
+pub mod Homes
+pub mod Promised

@@ -1,5 +1,5 @@
 -- Each label is marked once.
-use Rattle.std.proofs.Common.{◌≡◌, refl, sym, ◌∙◌, ap, subst, ℕ, zero, suc, ◌+◌, ◌<◌, ◌≤◌, List, [], ◌∷◌, arith, Bool, true, false, Option, Some, None}
+use Rattle.std.proofs.Common.{◌≡◌, refl, sym, ◌∙◌, ap, ℕ, zero, suc, ◌+◌, ◌<◌, ◌≤◌, List, [], ◌∷◌, arith, Bool, true, false, Option, Some, None}
 use Rattle.std.specs.Prelude.{slice_get, nat_eq, if◌then◌else◌}
 use Rattle.std.specs.List.{range_with_len}
 use Rattle.std.proofs.lemmas.Bool.{eq-eqb, eqb-true}
@@ -10,10 +10,10 @@ use Rattle.c_tree.specs.Lowered.{program_entries}
 use Rattle.c_promise.proofs.Labels.{marked, labels_in_order}
 
 -- the labels that are marked from a on, each a number greater by 1
-data Counts (a : ℕ) (x : ℕ) (xs : List ℕ) : Type 0 where
+pub data Counts (a : ℕ) (x : ℕ) (xs : List ℕ) : Type 0 where
   On : (m : ℕ) → x ≡ a → xs ≡ range_with_len (a + 1) m → Counts a x xs
 
-counts : (a m x : ℕ) (xs : List ℕ) → x ∷ xs ≡ range_with_len a m → Counts a x xs
+pub counts : (a m x : ℕ) (xs : List ℕ) → x ∷ xs ≡ range_with_len a m → Counts a x xs
 counts a zero x xs is = cc
 counts a (suc m) x xs is =
     let first : x ≡ a = cc in

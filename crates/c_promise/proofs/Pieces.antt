@@ -1,5 +1,5 @@
 -- The statements of expressions fit, where their steps' cells lie below a limit.
-use Rattle.std.proofs.Common.{◌≡◌, refl, sym, ap, subst, ◌∙◌, ℕ, zero, suc, ◌+◌, ◌^◌, ◌-◌, ◌<◌, ◌≤◌, List, [], ◌∷◌, ◌++◌, arith, Bool, true, false, ◌||◌, ◌&&◌, cond, Option, Some, None, length}
+use Rattle.std.proofs.Common.{◌≡◌, refl, sym, ap, subst, ℕ, zero, suc, ◌+◌, ◌^◌, ◌-◌, ◌<◌, ◌≤◌, List, [], ◌∷◌, ◌++◌, arith, Bool, true, false, ◌||◌, ◌&&◌, cond, Some, length}
 use Rattle.std.specs.Prelude.{slice_get, nat_lt, pos}
 use Rattle.std.proofs.lemmas.Bool.{and_from, lt-ltb}
 use Rattle.ir_core.specs.Operator.{wrap}
@@ -13,9 +13,9 @@ use Rattle.ir_run.specs.Entry as entry
 use Rattle.ir_run.specs.Promise.{shifts_fit, is_plain}
 use Rattle.c_tree.specs.declared.meaning.Place.{Place}
 use Rattle.c_tree.specs.Program.{Term, Terms, Number, Scalar, Element, Input, Call, Unary, Shifted, Arithmetic, Compare, Not, AndAlso, OrElse, NoMore, More, Function}
-use Rattle.c_tree.specs.Code.{Aim, Value, When, Unless, Side, AsValue, IfHolds, IfFails, side, one_if, is_value, has_call, have_call, cells, argument_cells, marks, argument_marks, other_side, Frame, Layout, Piece, Passing, cell_of, used, in_cell, scalar_read, is_saved, element_address, is_below_length, index_steps, branch, opposite, negated, truth, both, one_of, passed, frame_of, jump_steps, call_steps, piece, passing, shifted_tree}
+use Rattle.c_tree.specs.Code.{Aim, Value, When, Unless, AsValue, IfHolds, IfFails, side, one_if, is_value, has_call, have_call, cells, argument_cells, marks, argument_marks, other_side, Frame, Layout, Piece, cell_of, used, in_cell, scalar_read, is_saved, element_address, is_below_length, index_steps, branch, negated, truth, both, one_of, passed, frame_of, jump_steps, call_steps, piece, passing, shifted_tree}
 use Rattle.c_lowered.specs.Sound.{World, IsScalar, Answers, count, SoundTerm, SoundTerms}
-use Rattle.c_promise.proofs.Fit.{IsTree, Comes, Back, IsSet, AllFit, join, is_set}
+use Rattle.c_promise.proofs.Fit.{IsTree, Back, IsSet, AllFit, join, is_set}
 
 -- what is known of a layout: the cells of scalars, of parameters and of frames lie below the limit
 pub record Fits (w : World) (t : Layout) (limit : ℕ) : Type 0 where

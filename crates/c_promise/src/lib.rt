@@ -3,4 +3,4 @@
 
 mod law;
 
-pub use law::{label_once, run_lax};
+pub use law::{label_once, no_shift_is_too_wide, run_lax, statements_keep_their_promises};

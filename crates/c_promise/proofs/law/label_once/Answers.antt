@@ -1,5 +1,4 @@
 use Rattle.c_promise.proofs.Once as once
-use Rattle.c_promise.proofs.Pieces.{piece_whole}
 use Rattle.c_promise.proofs.law.label_once.Goals as goal
 
 pub returns : goal.returns
