@@ -1,0 +1,4 @@
+pub mod Zipped
+pub mod Steps
+pub mod Initial
+pub mod Whole

@@ -1,0 +1,3 @@
+pub mod Unnamed
+pub mod Chosen
+pub mod Wholes

@@ -1,0 +1,4 @@
+pub mod Tallied
+pub mod Over
+pub mod Put
+pub mod Sample
