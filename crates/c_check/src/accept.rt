@@ -6,6 +6,8 @@ ghost use Rattle.c_tree.specs.Items.{item};
 ghost use Rattle.c_tree.specs.Names.{functions_in, parameters};
 ghost use Rattle.c_tree.specs.Recursion.{others, main_of};
 ghost use Rattle.c_tree.specs.Accepted.{IsAcceptedTree, IsTreeFaultOf};
+ghost use Rattle.c_tree.specs.Resolve.{resolved};
+ghost use Rattle.c_tree.specs.Counts.{data_of};
 ghost use Rattle.c_check.specs.Note.{nothing};
 ghost use Rattle.c_check.specs.First.{IsFirst, IsNamed, recursion_of};
 
@@ -13,6 +15,7 @@ use crate::global::note_all;
 use crate::note::Found;
 use crate::numbers::width_of;
 use c_cycle::first_cycle;
+use c_data::cells_of;
 use c_names::{count_of, is_main};
 use c_tree::{CFault, CProg, CTree, Global as CGlobal};
 use nk_base::{Memory, Text};
@@ -112,18 +115,31 @@ fn judge(alloc: Global, t: &CTree, n: u32) -> Result<(), CFault>
     }
 }
 
+/// How many cells the program's statements have, where it is accepted, or why it isn't. A count that is too great counts as want
+/// of memory.
+fn judged_cells(alloc: Global, t: &CTree, n: u32) -> Result<u64, CFault>
+    requires low { 16 ≤ n }
+    requires high { n ≤ 32 }
+    ensures judged { MatchResult result (λ cells. IsAcceptedTree t.now n) (λ f. IsTreeFaultOf t.now n f) }
+    ensures cells { IfOk result (λ cells. cells ≡ data_of (resolved t.now) n) }
+{
+    judge(alloc, t, n)?;
+    Ok(cells_of(alloc, t, n)?)
+}
+
 /// The program, accepted with numbers of `n` bits, or the first of its faults.
 ///
 /// Of several faults the lowest number is answered, and of one number the least place: names that are unknown or declared
 /// twice, uses of another kind, numbers out of their range, amounts of shifts, the first function that reaches itself, and
-/// a `main` that is missing or has parameters. Want of memory may come at any growth. The rules are this project's own.
+/// a `main` that is missing or has parameters. Want of memory may come at any growth; 2^64 cells of statements or more, and a
+/// count of 2^32 or more for one of the program's nodes, count as such. The rules are this project's own.
 pub fn check(alloc: Global, t: CTree, n: u32) -> Result<CProg, CFault>
     requires low { 16 ≤ n }
     requires high { n ≤ 32 }
     ensures { MatchResult result (λ p. p ≡ (t, n)) (λ f. IsTreeFaultOf t n f) }
 {
-    match judge(alloc, &t, n) {
+    match judged_cells(alloc, &t, n) {
         Err(fault) => Err(fault),
-        Ok(()) => Ok(CProg { tree: t, n }),
+        Ok(cells) => Ok(CProg { tree: t, n, cells }),
     }
 }
