@@ -1,0 +1,11 @@
+pub mod Finds
+pub mod Complete
+pub mod Laws
+pub mod Swaps
+pub mod Multiples
+pub mod EndlessBits
+pub mod Ranges
+pub mod Facts
+pub mod Slots
+pub mod Closures
+pub mod Tiles
