@@ -71,6 +71,7 @@ addressed_unary (un.Card k) t = option_map Load t
 addressed_unary _ t = None
 
 abbrev mutual
+  -- the tree that is worth what the expression is, modulo 2^N
   pub low : Machine → List Ty → Term → Tree
   low m f (act.Number z) = Some (Number (num.Const (wrap m.width z)))
   low m f (act.Field j) = Some (Number (num.Field j))
@@ -80,6 +81,7 @@ abbrev mutual
   low m f (act.Binary op a b) = low_binary op (low m f a) (exact m f a) (low m f b) (amount b)
   low m f _ = None
 
+  -- the tree that is worth exactly what the expression is
   pub exact : Machine → List Ty → Term → Tree
   exact m f (act.Number z) = when (is_in_int m.width z) (Some (Number (num.Const z)))
   exact m f (act.Field j) = when (is_within_int m.width (type_at f j)) (Some (Number (num.Field j)))

@@ -10,11 +10,14 @@ use Rattle.pat_core.specs.Tile as tile
 
 -- the second is the first with operands of `+ * & ^ |` swapped
 pub data IsSwap : Tile Spot → Tile Spot → Type 0 where
+  -- as it is written
   Itself : {t : Tile Spot} → IsSwap t t
+  -- below a load, a prefix, a shift or an operator
   InLoad : {t u : Tile Spot} → IsSwap t u → IsSwap (tile.Load t) (tile.Load u)
   InUnary : {op : Prefix} → {t u : Tile Spot} → IsSwap t u → IsSwap (tile.Unary op t) (tile.Unary op u)
   InShifted : {op : Shift} → {k : Num} → {t u : Tile Spot} → IsSwap t u → IsSwap (tile.Shifted op t k) (tile.Shifted op u k)
   InBinary : {op : Arith} → {t u x y : Tile Spot} → IsSwap t x → IsSwap u y → IsSwap (tile.Binary op t u) (tile.Binary op x y)
+  -- the two operands of the root turned
   Turned : {op : Arith} → {s t u : Tile Spot} → IsTrue (is_commutative op) → IsSwap s (tile.Binary op t u) → IsSwap s (tile.Binary op u t)
 
 -- a tree is found, of which t is a swap
